@@ -1,0 +1,5 @@
+pub mod Tests
+pub mod Runs
+pub mod Turns
+pub mod Laws
+pub mod Pages

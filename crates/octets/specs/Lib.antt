@@ -1,0 +1,3 @@
+pub mod Choice
+pub mod Octets
+pub mod Pages

@@ -1,0 +1,97 @@
+// Numbers as little-endian bytes, pages made of fields, parts of pages and runs of words.
+// Nothing here knows of the card.
+ghost use mathlib.Core.Path.{_≡_};
+ghost use mathlib.Core.Bool.{true};
+ghost use Prim.Native.Nat.{ℕ, _+_, _<_, _≤_};
+ghost use lib.ListN.{length, getD};
+ghost use lib.Seq.{sets};
+ghost use Rattle.octets.specs.Octets.{bytesOf, numberOf, part, padded};
+ghost use Rattle.octets.specs.Pages.{fieldsOf, puts, tidy};
+
+// The lowest `width` bytes of `v`, lowest first, from place `at`.
+pub fn put(buf: &mut [u8], at: usize, width: usize, v: u64)
+    requires { ⌜ at + width ≤ length (now buf) ⌝ }
+    ensures { λ _. ⌜ now (buf .exit) ≡ sets (now (buf .entry)) at (bytesOf width v) ⌝ }
+{
+    let mut to = at;
+    let mut x = v;
+    let mut left = width;
+    while 0 < left {
+        buf[to] = (x % 256) as u8;
+        to += 1;
+        x = x / 256;
+        left -= 1;
+    }
+}
+
+fn wide(b: u8) -> u64
+    ensures { λ r. ⌜ (r ≡ b) × (r < 256) ⌝ }
+{
+    b as u64
+}
+
+// The number in the `width` bytes from place `at`.
+pub fn get(buf: &[u8], at: usize, width: usize) -> u64
+    requires { ⌜ (at + width ≤ length (now buf)) × (width ≤ 8) ⌝ }
+    ensures { λ r. ⌜ r ≡ numberOf (part (now (buf .entry)) at width) ⌝ }
+{
+    let mut x: u64 = 0;
+    let mut left = width;
+    while 0 < left {
+        left -= 1;
+        x = x * 256 + wide(buf[at + left]);
+    }
+    x
+}
+
+fn at_or_zero(s: &[u8], i: usize) -> u8
+    ensures { λ r. ⌜ r ≡ getD (now (s .entry)) i 0 ⌝ }
+{
+    if i < s.len() { s[i] } else { 0 }
+}
+
+// The first n bytes of the answer become the page's from place `from`, with zeros past its end.
+pub fn copy_part(page: &[u8], from: usize, n: usize, answer: &mut [u8])
+    requires { ⌜ (from ≤ length (now page)) × (n ≤ length (now answer)) ⌝ }
+    ensures { λ _. ⌜ now (answer .exit) ≡ sets (now (answer .entry)) 0 (padded (now (page .entry)) from n) ⌝ }
+{
+    let mut i = 0;
+    while i < n {
+        answer[i] = at_or_zero(page, from + i);
+        i += 1;
+    }
+}
+
+// A run of words, copied to place `at`.
+pub fn copy_words(to: &mut [u64], at: usize, src: &[u64])
+    requires { ⌜ at + length (now src) ≤ length (now to) ⌝ }
+    ensures { λ _. ⌜ now (to .exit) ≡ sets (now (to .entry)) at (now (src .entry)) ⌝ }
+{
+    let mut i = 0;
+    while i < src.len() {
+        to[at + i] = src[i];
+        i += 1;
+    }
+}
+
+// One field: its place, its width and its value.
+fn put_row(page: &mut [u8], row: [u64; 3])
+    requires { ⌜ getD row 0 0 + getD row 1 0 ≤ length (now page) ⌝ }
+    ensures { λ _. ⌜ now (page .exit) ≡ sets (now (page .entry)) (getD row 0 0) (bytesOf (getD row 1 0) (getD row 2 0)) ⌝ }
+{
+    let at = row[0] as usize;
+    let width = row[1] as usize;
+    put(page, at, width, row[2]);
+}
+
+// The fields of a table, put on a page in order.
+pub fn fill(page: &mut [u8], rows: &[[u64; 3]])
+    requires { ⌜ tidy 0 (length (now page)) (fieldsOf (now rows)) ≡ true ⌝ }
+    ensures { λ _. ⌜ now (page .exit) ≡ puts (now (page .entry)) (fieldsOf (now (rows .entry))) ⌝ }
+{
+    let mut i = 0;
+    while i < rows.len() {
+        put_row(page, rows[i]);
+        i += 1;
+    }
+}

@@ -1,0 +1,52 @@
+-- What a status and a buffer say together, over plain variables.
+use mathlib.Core.Path.{_≡_, refl, sym, ap, _∙_}
+use mathlib.Core.List.{List, []}
+use Prim.Native.Nat.{ℕ, zero, suc, _≤_}
+use native.Mathlib.Nat.{sub-zero}
+use native.Mathlib.Omega.{arith}
+use borrow.Author.Tests.{eq-eqb, ne-eqb}
+use lib.ListN.{length}
+use lib.Seq.{sets, length-sets}
+use Rattle.octets.specs.Octets.{padded}
+use Rattle.octets.proofs.Runs.{part-same}
+use Rattle.replies.specs.declared.Reply.{Reply}
+use Rattle.replies.specs.Answers.{Answer, answered, granted, refused, Replied}
+
+pub length-padded : (l : List ℕ) (at n : ℕ) → length (padded l at n) ≡ n
+length-padded l at zero = refl
+length-padded l at (suc n) = ap suc (length-padded l (suc at) n)
+
+abbrev replyOf : ℕ → ℕ → ℕ → Reply
+replyOf status dword len = record { status = status; dword = dword; len = len }
+
+-- a refusal writes nothing
+pub refusing : (s w : ℕ) (d before : List ℕ) → (s ≡ 0 → ⊥) → Replied (answered s w d) before (replyOf s 0 0) before
+refusing s w d before n =
+    rw (ne-eqb s 0 n) (record { status = refl; dword = refl; len = refl; within = omega arith; buffer = refl; part = refl })
+
+-- a success writes the data at the buffer's start
+granting :
+    (n w : ℕ) (d before after : List ℕ) → n ≡ length d → n ≤ length before → after ≡ sets before 0 d
+    → Replied (granted w d) before (replyOf 0 w n) after
+granting n w d before after l f b =
+    record {
+      status = refl;
+      dword = refl;
+      len = l;
+      within = omega (arith, ap length b ∙ length-sets before 0 d);
+      buffer = b;
+      part = rw (b, sub-zero) (part-same d before 0 n (sym l) (omega arith));
+    }
+
+pub handing :
+    (s n w : ℕ) (d before after : List ℕ) → s ≡ 0 → n ≡ length d → n ≤ length before → after ≡ sets before 0 d
+    → Replied (answered s w d) before (replyOf 0 w n) after
+handing s n w d before after e l f b = rw (eq-eqb s 0 e) (granting n w d before after l f b)
+
+-- an answer allows one reply and one buffer
+pub one-outcome :
+    (a : Answer) (before x y : List ℕ) (r q : Reply) → Replied a before r x → Replied a before q y → (r ≡ q) × (x ≡ y)
+one-outcome a before x y r q h k =
+    let e : replyOf (r .status) (r .dword) (r .len) ≡ replyOf (q .status) (q .dword) (q .len)
+    = rw (h .status, h .dword, h .len, k .status, k .dword, k .len) in
+    (e, h .buffer ∙ sym (k .buffer))

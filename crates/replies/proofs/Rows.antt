@@ -1,0 +1,27 @@
+-- What a status of 0 tells: no row of the table holds.
+use mathlib.Core.Path.{_≡_, refl}
+use mathlib.Core.Bool.{Bool, true, false}
+use mathlib.Core.List.{List, [], _∷_}
+use Prim.Native.Nat.{ℕ, _<_}
+use native.Mathlib.Omega.{arith}
+use borrow.Author.Tests.{ltb-true}
+use lib.Dec.{ltb}
+use Rattle.octets.specs.Choice.{if_then_else_}
+use Rattle.octets.proofs.Tests.{both}
+use Rattle.replies.specs.Status.{Line, firstOf, numbered, NoneHolds}
+
+one-passed : (b : Bool) (n more : ℕ) → 0 < n → (if b then n else more) ≡ 0 → (b ≡ false) × (more ≡ 0)
+one-passed true n more p h = absurd (omega arith)
+one-passed false n more p h = (refl, h)
+
+pub passed : (ls : List Line) → numbered ls ≡ true → firstOf ls ≡ 0 → NoneHolds ls
+passed [] k h = tt
+passed (l ∷ ls) k h =
+    let b = both (ltb 0 (l .number)) _ k in
+    let p = one-passed (l .holds) (l .number) (firstOf ls) (ltb-true 0 (l .number) (b .0)) h in
+    (p .0, passed ls (b .1) (p .1))
+
+-- and the other way: where no row holds, the status is 0
+pub none-held : (ls : List Line) → NoneHolds ls → firstOf ls ≡ 0
+none-held [] h = refl
+none-held (l ∷ ls) h = rw (h .0) (none-held ls (h .1))
