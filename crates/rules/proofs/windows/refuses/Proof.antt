@@ -1,0 +1,17 @@
+use mathlib.Core.Path.{sym, ap, _∙_}
+use borrow.Author.Needs.{needs}
+use Rattle.rules.specs.Window.{isRefuse}
+use Rattle.rules.proofs.windows.refuses.Statement.{statement}
+use Rattle.rules.proofs.windows.refuses.Tie as tie
+
+pub refuses-spec : {M : Type 1} → statement M
+refuses-spec =
+    tie.close
+    (tie.spec
+    (λ c κs. search needs)
+    (λ c. search needs)
+    (λ c. search needs)
+    (λ c. search needs)
+    (λ c. sym (ap isRefuse (sym (c .before .before .entry .ensures) ∙ c .enum-told .given .1)))
+    (λ c. sym (ap isRefuse (sym (c .before .before .entry .ensures) ∙ c .enum-told2 .given .1)))
+    (λ c. sym (ap isRefuse (sym (c .before .before .entry .ensures) ∙ c .enum-told3 .given .1))))

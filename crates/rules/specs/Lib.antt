@@ -1,0 +1,5 @@
+pub mod Record
+pub mod Window
+pub mod Events
+pub mod Rules
+pub mod Legal

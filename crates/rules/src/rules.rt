@@ -1,0 +1,275 @@
+// What each item does to one set.
+ghost use mathlib.Core.Path.{_≡_};
+ghost use Prim.Native.Nat.{_+_};
+ghost use Rattle.rules.specs.Record.{afresh, effectOf};
+ghost use Rattle.rules.specs.Rules.{still, onlyInD, causeOfMode, configure, tooEarly, entered, selecting, select, refusalNo, isOver, causeOver, carried, leaving, charge, readEvent, writeEvent, excursionEvent, recovery, tick, clearingRead};
+use crate::Attributes;
+use crate::Cause;
+use crate::Config;
+use crate::Effect;
+use crate::Events;
+use crate::Quantity;
+use crate::Refusal;
+use crate::Selected;
+use crate::State;
+use crate::Window;
+use crate::notices::an_excursion;
+use crate::notices::and_exceeded;
+use crate::notices::entering_d;
+use crate::notices::no_events;
+use crate::notices::warned;
+use crate::notices::warning_of;
+use crate::quantities::capped;
+use crate::quantities::floored;
+use crate::quantities::limit_of;
+use crate::quantities::need_of;
+use crate::quantities::passes;
+use crate::quantities::reaches;
+use crate::quantities::spent_of;
+use crate::quantities::with_spent;
+use crate::windows::moved;
+use crate::windows::refuses;
+use crate::windows::same_window;
+
+fn effect_of(state: State, happened: Events, clears: bool) -> Effect
+    ensures { λ r. ⌜ r ≡ effectOf state happened clears ⌝ }
+{
+    Effect {
+        state,
+        happened,
+        clears,
+    }
+}
+
+fn keep_still(s: State) -> Effect
+    ensures { λ r. ⌜ r ≡ still s ⌝ }
+{
+    effect_of(s, no_events(), false)
+}
+
+// Another window, with nothing spent in it and n ms of N time. The one place that makes a state.
+fn started(s: State, w: Window, n: u64) -> State
+    ensures { λ r. ⌜ r ≡ afresh s w n ⌝ }
+{
+    let c = s.config;
+    State {
+        window: w,
+        config: c,
+        reads: 0,
+        writes: 0,
+        time: 0,
+        n_time: n,
+    }
+}
+
+fn cause_of_mode(on: bool) -> Cause
+    ensures { λ r. ⌜ r ≡ causeOfMode on ⌝ }
+{
+    if on { Cause::Enable } else { Cause::Disable }
+}
+
+// Set Features 13h: enable or disable, with what it stores.
+pub fn set_mode(s: State, on: bool, c: Config) -> Effect
+    ensures { λ r. ⌜ r ≡ configure on c s ⌝ }
+{
+    let held = s.window;
+    let mut t = started(s, moved(held, cause_of_mode(on)), 0);
+    t.config = c;
+    keep_still(t)
+}
+
+fn too_early(a: Attributes, s: State, c: Cause) -> bool
+    ensures { λ r. ⌜ r ≡ tooEarly c a s ⌝ }
+{
+    let held = s.window;
+    let from_n = same_window(held, Window::N);
+    let to_d = same_window(moved(held, c), Window::D);
+    let need = need_of(a);
+    from_n & to_d & (s.n_time != need)
+}
+
+// Into another window, with the events of entering it.
+fn enter(a: Attributes, s: State, w: Window) -> Effect
+    ensures { λ r. ⌜ r ≡ entered w a s ⌝ }
+{
+    let c = s.config;
+    let t = started(s, w, 0);
+    match w {
+        Window::Off => keep_still(t),
+        Window::D => effect_of(t, entering_d(a, c), false),
+        Window::N => keep_still(t),
+    }
+}
+
+fn go_to_selected(a: Attributes, s: State, c: Cause) -> Effect
+    ensures { λ r. ⌜ r ≡ selecting c a s ⌝ }
+{
+    let held = s.window;
+    let w = moved(held, c);
+    if same_window(w, held) {
+        keep_still(s)
+    } else {
+        enter(a, s, w)
+    }
+}
+
+fn select_by(a: Attributes, s: State, c: Cause) -> Selected
+    ensures { λ r. ⌜ r ≡ select c a s ⌝ }
+{
+    let held = s.window;
+    if refuses(held, c) {
+        return Selected::Refused(Refusal::WhileOff);
+    }
+    if too_early(a, s, c) {
+        return Selected::Refused(Refusal::TooEarly);
+    }
+    Selected::Done(go_to_selected(a, s, c))
+}
+
+pub fn select_d(a: Attributes, s: State) -> Selected
+    ensures { λ r. ⌜ r ≡ select Cause.SelectD a s ⌝ }
+{
+    select_by(a, s, Cause::SelectD)
+}
+
+pub fn select_n(a: Attributes, s: State) -> Selected
+    ensures { λ r. ⌜ r ≡ select Cause.SelectN a s ⌝ }
+{
+    select_by(a, s, Cause::SelectN)
+}
+
+pub fn refusal_no(r: Refusal) -> u16
+    ensures { λ n. ⌜ n ≡ refusalNo r ⌝ }
+{
+    match r {
+        Refusal::WhileOff => 0x0002,
+        Refusal::TooEarly => 0x07C1,
+    }
+}
+
+// Reads and writes leave D past their typical, time at its maximum.
+fn is_over(q: Quantity, count: u64, k: u64, most: u64) -> bool
+    ensures { λ r. ⌜ r ≡ isOver q most (count + k) ⌝ }
+{
+    match q {
+        Quantity::Reads => passes(count, k, most),
+        Quantity::Writes => passes(count, k, most),
+        Quantity::Time => reaches(count, k, most),
+    }
+}
+
+fn cause_over(q: Quantity) -> Cause
+    ensures { λ r. ⌜ r ≡ causeOver q ⌝ }
+{
+    match q {
+        Quantity::Reads => Cause::Exceeded,
+        Quantity::Writes => Cause::Exceeded,
+        Quantity::Time => Cause::TimeUp,
+    }
+}
+
+// What count + k carries over into N. Of time the excess over the maximum, made of differences, so that no sum wraps.
+fn carried_over(a: Attributes, q: Quantity, count: u64, k: u64) -> u64
+    ensures { λ r. ⌜ r ≡ carried q a (count + k) ⌝ }
+{
+    match q {
+        Quantity::Reads => 0,
+        Quantity::Writes => 0,
+        Quantity::Time => {
+            let most = a.time_maximum;
+            let already = floored(count, most);
+            let more = floored(k, floored(most, count));
+            capped(already, more, need_of(a))
+        }
+    }
+}
+
+// Out of D, with the warning that was reckoned and bit 14.
+fn leave_d(a: Attributes, s: State, q: Quantity, k: u64, low: Events) -> Effect
+    ensures { λ r. ⌜ r ≡ leaving q k a s low ⌝ }
+{
+    let held = s.window;
+    let n = carried_over(a, q, spent_of(s, q), k);
+    let t = started(s, moved(held, cause_over(q)), n);
+    effect_of(t, and_exceeded(low), false)
+}
+
+// The estimate after is that before less k, so the sum is made only where it is within the limit.
+fn charge_by(a: Attributes, s: State, q: Quantity, k: u64) -> Effect
+    ensures { λ r. ⌜ r ≡ charge q k a s ⌝ }
+{
+    let most = limit_of(a, q);
+    let count = spent_of(s, q);
+    let c = s.config;
+    let before = floored(most, count);
+    let low = warning_of(q, warned(c, q, before, floored(before, k)));
+    if is_over(q, count, k, most) {
+        leave_d(a, s, q, k, low)
+    } else {
+        effect_of(with_spent(s, q, count + k), low, false)
+    }
+}
+
+fn charge_in_d(a: Attributes, s: State, q: Quantity, k: u64) -> Effect
+    ensures { λ r. ⌜ r ≡ onlyInD s (charge q k a s) ⌝ }
+{
+    let w = s.window;
+    match w {
+        Window::Off => keep_still(s),
+        Window::D => charge_by(a, s, q, k),
+        Window::N => keep_still(s),
+    }
+}
+
+pub fn read_event(a: Attributes, s: State, k: u16) -> Effect
+    ensures { λ r. ⌜ r ≡ readEvent k a s ⌝ }
+{
+    charge_in_d(a, s, Quantity::Reads, k as u64)
+}
+
+pub fn write_event(a: Attributes, s: State, k: u16) -> Effect
+    ensures { λ r. ⌜ r ≡ writeEvent k a s ⌝ }
+{
+    charge_in_d(a, s, Quantity::Writes, k as u64)
+}
+
+pub fn excursion_event(s: State) -> Effect
+    ensures { λ r. ⌜ r ≡ excursionEvent s ⌝ }
+{
+    let w = s.window;
+    match w {
+        Window::Off => keep_still(s),
+        Window::D => effect_of(
+            started(s, moved(w, Cause::Excursion), 0),
+            an_excursion(),
+            false,
+        ),
+        Window::N => keep_still(s),
+    }
+}
+
+fn recover(a: Attributes, s: State, t: u64) -> Effect
+    ensures { λ r. ⌜ r ≡ recovery t a s ⌝ }
+{
+    let mut r = s;
+    r.n_time = capped(s.n_time, t, need_of(a));
+    keep_still(r)
+}
+
+pub fn tick_event(a: Attributes, s: State, t: u32) -> Effect
+    ensures { λ r. ⌜ r ≡ tick t a s ⌝ }
+{
+    let w = s.window;
+    match w {
+        Window::Off => keep_still(s),
+        Window::D => charge_by(a, s, Quantity::Time, t as u64),
+        Window::N => recover(a, s, t as u64),
+    }
+}
+
+// A read of page 0Ah with Retain 0.
+pub fn clearing_read(s: State) -> Effect
+    ensures { λ r. ⌜ r ≡ clearingRead s ⌝ }
+{
+    effect_of(s, no_events(), true)
+}

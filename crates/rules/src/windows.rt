@@ -1,0 +1,100 @@
+// The window changes: one constant table, three windows by seven causes.
+ghost use mathlib.Core.Path.{_≡_};
+ghost use Prim.Native.Nat.{_<_};
+ghost use mathlib.Core.Bool.{Bool};
+ghost use Rattle.rules.specs.Window.{windowNo, causeNo, next, movedTo, movedBy, refusedBy, sameWindow};
+use crate::Cause;
+use crate::Next;
+use crate::Window;
+
+const CHANGES: [[Next; 7]; 3] = [
+    // enable, disable, select D, select N, excursion, exceeded, time up
+    [
+        Next::To(Window::N),
+        Next::To(Window::Off),
+        Next::Refuse,
+        Next::Refuse,
+        Next::To(Window::Off),
+        Next::Never,
+        Next::Never,
+    ],
+    [
+        Next::To(Window::N),
+        Next::To(Window::Off),
+        Next::To(Window::D),
+        Next::To(Window::N),
+        Next::To(Window::N),
+        Next::To(Window::N),
+        Next::To(Window::N),
+    ],
+    [
+        Next::To(Window::N),
+        Next::To(Window::Off),
+        Next::To(Window::D),
+        Next::To(Window::N),
+        Next::To(Window::N),
+        Next::Never,
+        Next::Never,
+    ],
+];
+
+pub fn window_no(w: Window) -> usize
+    ensures { λ r. ⌜ (r ≡ windowNo w) × (r < 3) ⌝ }
+{
+    match w {
+        Window::Off => 0,
+        Window::D => 1,
+        Window::N => 2,
+    }
+}
+
+fn cause_no(c: Cause) -> usize
+    ensures { λ r. ⌜ (r ≡ causeNo c) × (r < 7) ⌝ }
+{
+    match c {
+        Cause::Enable => 0,
+        Cause::Disable => 1,
+        Cause::SelectD => 2,
+        Cause::SelectN => 3,
+        Cause::Excursion => 4,
+        Cause::Exceeded => 5,
+        Cause::TimeUp => 6,
+    }
+}
+
+fn entry(w: Window, c: Cause) -> Next
+    ensures { λ r. ⌜ r ≡ next w c ⌝ }
+{
+    let i = window_no(w);
+    let j = cause_no(c);
+    CHANGES[i][j]
+}
+
+// The window after a cause; where the table refuses, and where the cause never arises, the one held.
+pub fn moved(w: Window, c: Cause) -> Window
+    ensures { λ r. ⌜ r ≡ movedBy w c ⌝ }
+{
+    let n = entry(w, c);
+    match n {
+        Next::Never => w,
+        Next::Refuse => w,
+        Next::To(v) => v,
+    }
+}
+
+pub fn refuses(w: Window, c: Cause) -> bool
+    ensures { λ r. ⌜ r ≡ refusedBy w c ⌝ }
+{
+    let n = entry(w, c);
+    match n {
+        Next::Never => false,
+        Next::Refuse => true,
+        Next::To(_) => false,
+    }
+}
+
+pub fn same_window(v: Window, w: Window) -> bool
+    ensures { λ r. ⌜ r ≡ sameWindow v w ⌝ }
+{
+    window_no(v) == window_no(w)
+}
