@@ -1,5 +1,5 @@
 -- 01, "Estimates" and "Events".
-use Prim.Native.Nat.{ℕ, _-_}
+use Prim.Native.Nat.{ℕ, _+_, _*_, _-_}
 use mathlib.Core.Bool.{Bool, true, false, not, _&&_, _||_}
 use lib.Dec.{ltb, leb, eqb}
 use Rattle.octets.specs.Choice.{if_then_else_}
@@ -30,12 +30,20 @@ estimate q a s =
 
 -- ---- events
 
--- bits 0, 1, 2, 14 and 15
+-- bits 0, 1, 2, 14 and 15: C007h
 abbrev pub eventsOf : Bool → Bool → Bool → Bool → Bool → Events
 eventsOf i o t x y = record { reads = i; writes = o; time = t; exceeded = x; excursion = y }
 
 abbrev pub noEvents : Events
 noEvents = eventsOf false false false false false
+
+-- a bit's number
+abbrev pub bit : Bool → ℕ
+bit b = if b then 1 else 0
+
+-- as 16 bits: on pages, in the table, and in Set Features 13h
+abbrev pub bitsOf : Events → ℕ
+bitsOf e = bit (e .reads) + 2 * bit (e .writes) + 4 * bit (e .time) + 0x4000 * bit (e .exceeded) + 0x8000 * bit (e .excursion)
 
 -- the warning of one quantity, where b says so
 abbrev pub warning : Quantity → Bool → Events

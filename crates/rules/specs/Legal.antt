@@ -1,5 +1,6 @@
 -- 01, "Legal table", for one set. The window is none exactly when the mode is off, ENEV and event bits lie within C007h,
 -- and there are no unused bits: a record's types leave no other choice.
+use mathlib.Core.Path.{_≡_}
 use Prim.Native.Nat.{ℕ}
 use mathlib.Core.Bool.{Bool, true, false, not, _&&_, _||_}
 use lib.Dec.{leb, ltb, eqb}
@@ -9,8 +10,10 @@ use Rattle.rules.specs.declared.Events.{Events}
 use Rattle.rules.specs.declared.State.{State}
 use Rattle.rules.specs.declared.Notes.{Notes}
 use Rattle.rules.specs.declared.Record.{Record}
+use Rattle.rules.specs.declared.Effect.{Effect}
 use Rattle.rules.specs.Record.{need}
 use Rattle.rules.specs.Window.{byWindow}
+use Rattle.rules.specs.Events.{settled}
 
 -- "identifier 1..65535; endurance group 1..65535"
 abbrev pub numberMaximum : ℕ
@@ -69,3 +72,13 @@ legalNotes n = not (n .listed) || someEvent (n .events)
 
 abbrev pub legalRecord : Record → Bool
 legalRecord r = legalAttributes (r .attributes) && legalState (r .attributes) (r .state) && legalNotes (r .notes)
+
+-- ---- what every rule keeps
+
+-- from a legal set, a rule leaves a state that is legal
+abbrev pub KeepsState : (Attributes → State → Effect) → Type 0
+KeepsState rule = (a : Attributes) (s : State) → legalAttributes a ≡ true → legalState a s ≡ true → legalState a (rule a s .state) ≡ true
+
+-- and, its events settled, a record that is legal
+abbrev pub KeepsRecord : (Attributes → State → Effect) → Type 0
+KeepsRecord rule = (r : Record) → legalRecord r ≡ true → legalRecord (settled r (rule (r .attributes) (r .state))) ≡ true

@@ -7,35 +7,21 @@ use crate::Cause;
 use crate::Next;
 use crate::Window;
 
+const TO_OFF: Next = Next::To(Window::Off);
+
+const TO_D: Next = Next::To(Window::D);
+
+const TO_N: Next = Next::To(Window::N);
+
+const REFUSE: Next = Next::Refuse;
+
+const NEVER: Next = Next::Never;
+
+// Rows: off, D, N. Columns: enable, disable, select D, select N, excursion, exceeded, time up.
 const CHANGES: [[Next; 7]; 3] = [
-    // enable, disable, select D, select N, excursion, exceeded, time up
-    [
-        Next::To(Window::N),
-        Next::To(Window::Off),
-        Next::Refuse,
-        Next::Refuse,
-        Next::To(Window::Off),
-        Next::Never,
-        Next::Never,
-    ],
-    [
-        Next::To(Window::N),
-        Next::To(Window::Off),
-        Next::To(Window::D),
-        Next::To(Window::N),
-        Next::To(Window::N),
-        Next::To(Window::N),
-        Next::To(Window::N),
-    ],
-    [
-        Next::To(Window::N),
-        Next::To(Window::Off),
-        Next::To(Window::D),
-        Next::To(Window::N),
-        Next::To(Window::N),
-        Next::Never,
-        Next::Never,
-    ],
+    [TO_N, TO_OFF, REFUSE, REFUSE, TO_OFF, NEVER, NEVER],
+    [TO_N, TO_OFF, TO_D, TO_N, TO_N, TO_N, TO_N],
+    [TO_N, TO_OFF, TO_D, TO_N, TO_N, NEVER, NEVER],
 ];
 
 pub fn window_no(w: Window) -> usize
