@@ -2,7 +2,7 @@
 // A rule sees attributes and state and answers an effect; `notices::settle` alone writes events and the listed mark.
 pub mod legal;
 pub mod notices;
-pub mod quantities;
+mod quantities;
 pub mod rules;
 pub mod windows;
 
