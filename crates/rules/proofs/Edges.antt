@@ -3,19 +3,19 @@ use mathlib.Core.Path.{_≡_, refl}
 use mathlib.Core.Bool.{Bool, true, false}
 use mathlib.Core.List.{List, [], _∷_}
 use Prim.Native.Nat.{ℕ}
-use Rattle.rules.specs.declared.Window.{Window}
-use Rattle.rules.specs.declared.Window.the-variants.{Off, D, N}
+use Rattle.record.specs.declared.Window.{Window}
+use Rattle.record.specs.declared.Window.the-variants.{Off, D, N}
 use Rattle.rules.specs.declared.Cause.the-variants.{SelectD}
-use Rattle.rules.specs.declared.Attributes.{Attributes}
-use Rattle.rules.specs.declared.Events.{Events}
-use Rattle.rules.specs.declared.Config.{Config}
-use Rattle.rules.specs.declared.State.{State}
-use Rattle.rules.specs.declared.Record.{Record}
-use Rattle.rules.specs.declared.Effect.{Effect}
+use Rattle.record.specs.declared.Attributes.{Attributes}
+use Rattle.record.specs.declared.Events.{Events}
+use Rattle.record.specs.declared.Config.{Config}
+use Rattle.record.specs.declared.State.{State}
+use Rattle.record.specs.declared.Record.{Record}
+use Rattle.record.specs.declared.Effect.{Effect}
 use Rattle.rules.specs.declared.Selected.{Selected}
 use Rattle.rules.specs.declared.Selected.the-variants.{Done, Refused}
-use Rattle.rules.specs.Record.{stateOf}
-use Rattle.rules.specs.Events.{eventsOf, noEvents, bitsOf, settled}
+use Rattle.record.specs.Record.{stateOf}
+use Rattle.record.specs.Events.{eventsOf, noEvents, bitsOf, settled}
 use Rattle.rules.specs.Rules.{still, configure, select, refusalNo, readEvent, excursionEvent, tick}
 
 abbrev seven : Attributes

@@ -7,23 +7,24 @@ use lib.Dec.{ltb, leb, eqb}
 use borrow.Author.Tests.{leb-true, ltb-true, eqb-true, le-leb, lt-ltb, leb-false, ltb-false}
 use Rattle.octets.specs.Choice.{if_then_else_}
 use Rattle.octets.proofs.Tests.{and-left, and-right, both, together}
-use Rattle.rules.specs.declared.Attributes.{Attributes}
-use Rattle.rules.specs.declared.Window.{Window}
-use Rattle.rules.specs.declared.Window.the-variants.{Off, D, N}
+use Rattle.record.specs.declared.Attributes.{Attributes}
+use Rattle.record.specs.declared.Window.{Window}
+use Rattle.record.specs.declared.Window.the-variants.{Off, D, N}
 use Rattle.rules.specs.declared.Cause.{Cause}
 use Rattle.rules.specs.declared.Cause.the-variants.{Excursion}
-use Rattle.rules.specs.declared.Quantity.{Quantity}
-use Rattle.rules.specs.declared.Quantity.the-variants.{Reads, Writes, Time}
-use Rattle.rules.specs.declared.Config.{Config}
-use Rattle.rules.specs.declared.State.{State}
-use Rattle.rules.specs.declared.Record.{Record}
-use Rattle.rules.specs.declared.Effect.{Effect}
-use Rattle.rules.specs.Record.{limit, spent, need, stateOf, afresh, spending, recovering}
-use Rattle.rules.specs.Window.{byWindow, movedBy, sameWindow}
+use Rattle.record.specs.declared.Quantity.{Quantity}
+use Rattle.record.specs.declared.Quantity.the-variants.{Reads, Writes, Time}
+use Rattle.record.specs.declared.Config.{Config}
+use Rattle.record.specs.declared.State.{State}
+use Rattle.record.specs.declared.Record.{Record}
+use Rattle.record.specs.declared.Effect.{Effect}
+use Rattle.record.specs.Record.{limit, spent, need, stateOf, afresh, spending, recovering}
+use Rattle.record.specs.Window.{byWindow, sameWindow}
+use Rattle.rules.specs.Changes.{movedBy}
 use Rattle.rules.specs.Rules.{still, configure, entered, selecting, causeOfMode, isOver, causeOver, carried, charge, onlyInD, readEvent, writeEvent, excursionEvent, tick, recovery, clearingRead}
-use Rattle.rules.specs.Events.{settled}
-use Rattle.rules.specs.Legal.{inRange, legalAttributes, noneSpent, withinLimits, legalState, legalNotes, legalRecord, KeepsState, KeepsRecord}
-use Rattle.rules.proofs.Marks.{notes-kept}
+use Rattle.record.specs.Events.{settled}
+use Rattle.record.specs.Legal.{inRange, legalAttributes, noneSpent, withinLimits, legalState, legalNotes, legalRecord, KeepsState, KeepsRecord}
+use Rattle.record.proofs.Marks.{notes-kept}
 
 -- of three tests that hold together
 three : (a b c : Bool) → a && b && c ≡ true → (a ≡ true) × (b ≡ true) × (c ≡ true)

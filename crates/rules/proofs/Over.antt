@@ -4,8 +4,8 @@ use mathlib.Core.Bool.{false}
 use Prim.Native.Nat.{ℕ, _≤_}
 use native.Mathlib.Omega.{arith}
 use borrow.Author.Tests.{ltb-false, leb-false}
-use Rattle.rules.specs.declared.Quantity.{Quantity}
-use Rattle.rules.specs.declared.Quantity.the-variants.{Reads, Writes, Time}
+use Rattle.record.specs.declared.Quantity.{Quantity}
+use Rattle.record.specs.declared.Quantity.the-variants.{Reads, Writes, Time}
 use Rattle.rules.specs.Rules.{isOver}
 
 pub not-over : (q : Quantity) (most n : ℕ) → isOver q most n ≡ false → n ≤ most

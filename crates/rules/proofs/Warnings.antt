@@ -6,15 +6,15 @@ use native.Mathlib.Omega.{arith}
 use lib.Dec.{ltb, leb}
 use borrow.Author.Tests.{le-ltb, lt-ltb, lt-leb}
 use Rattle.octets.specs.Choice.{if_then_else_}
-use Rattle.rules.specs.declared.Attributes.{Attributes}
-use Rattle.rules.specs.declared.Quantity.{Quantity}
-use Rattle.rules.specs.declared.Quantity.the-variants.{Reads, Writes, Time}
-use Rattle.rules.specs.declared.Config.{Config}
-use Rattle.rules.specs.declared.State.{State}
-use Rattle.rules.specs.declared.Events.{Events}
-use Rattle.rules.specs.declared.Effect.{Effect}
-use Rattle.rules.specs.Record.{limit, spent, threshold, enables}
-use Rattle.rules.specs.Events.{leftOf, warning, warns, startsBelow, andExceeded}
+use Rattle.record.specs.declared.Attributes.{Attributes}
+use Rattle.record.specs.declared.Quantity.{Quantity}
+use Rattle.record.specs.declared.Quantity.the-variants.{Reads, Writes, Time}
+use Rattle.record.specs.declared.Config.{Config}
+use Rattle.record.specs.declared.State.{State}
+use Rattle.record.specs.declared.Events.{Events}
+use Rattle.record.specs.declared.Effect.{Effect}
+use Rattle.record.specs.Record.{limit, spent, threshold, enables}
+use Rattle.record.specs.Events.{leftOf, warning, warns, startsBelow, andExceeded}
 use Rattle.rules.specs.Rules.{isOver, charge, leaving, noting}
 
 module _ (q : Quantity) (a : Attributes) (c : Config) where

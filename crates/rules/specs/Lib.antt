@@ -1,5 +1,2 @@
-pub mod Record
-pub mod Window
-pub mod Events
+pub mod Changes
 pub mod Rules
-pub mod Legal

@@ -4,24 +4,25 @@ use mathlib.Core.Bool.{Bool, true, false, not, _&&_}
 use lib.Dec.{ltb, leb, eqb}
 use Rattle.octets.specs.Choice.{if_then_else_}
 use Rattle.replies.specs.Numbers as numbers
-use Rattle.rules.specs.declared.Attributes.{Attributes}
-use Rattle.rules.specs.declared.Window.{Window}
-use Rattle.rules.specs.declared.Window.the-variants.{D, N}
+use Rattle.record.specs.declared.Attributes.{Attributes}
+use Rattle.record.specs.declared.Window.{Window}
+use Rattle.record.specs.declared.Window.the-variants.{D, N}
 use Rattle.rules.specs.declared.Cause.{Cause}
 use Rattle.rules.specs.declared.Cause.the-variants.{Enable, Disable, SelectD, SelectN, Excursion, Exceeded, TimeUp}
-use Rattle.rules.specs.declared.Quantity.{Quantity}
-use Rattle.rules.specs.declared.Quantity.the-variants.{Reads, Writes, Time}
-use Rattle.rules.specs.declared.Config.{Config}
-use Rattle.rules.specs.declared.State.{State}
-use Rattle.rules.specs.declared.Effect.{Effect}
+use Rattle.record.specs.declared.Quantity.{Quantity}
+use Rattle.record.specs.declared.Quantity.the-variants.{Reads, Writes, Time}
+use Rattle.record.specs.declared.Config.{Config}
+use Rattle.record.specs.declared.State.{State}
+use Rattle.record.specs.declared.Effect.{Effect}
 use Rattle.rules.specs.declared.Refusal.{Refusal}
 use Rattle.rules.specs.declared.Refusal.the-variants.{WhileOff, TooEarly}
 use Rattle.rules.specs.declared.Selected.{Selected}
 use Rattle.rules.specs.declared.Selected.the-variants.{Done, Refused}
-use Rattle.rules.specs.Record.{limit, spent, need, afresh, spending, recovering, configured, effectOf}
-use Rattle.rules.specs.Window.{byWindow, movedBy, refusedBy, sameWindow}
-use Rattle.rules.specs.Events.{leftOf, noEvents, warning, warns, enteringD, andExceeded, anExcursion}
-use Rattle.rules.specs.declared.Events.{Events}
+use Rattle.record.specs.Record.{limit, spent, need, afresh, spending, recovering, configured, effectOf}
+use Rattle.record.specs.Window.{byWindow, sameWindow}
+use Rattle.rules.specs.Changes.{movedBy, refusedBy}
+use Rattle.record.specs.Events.{leftOf, noEvents, warning, warns, enteringD, andExceeded, anExcursion}
+use Rattle.record.specs.declared.Events.{Events}
 
 -- an item that does no clearing read
 abbrev pub noting : State → Events → Effect

@@ -1,45 +1,34 @@
-// One NVM Set in Predictable Latency Mode, by value: its record, and every rule that changes it.
-// A rule sees attributes and state and answers an effect; `notices::settle` alone writes events and the listed mark.
-pub mod legal;
-pub mod notices;
-mod quantities;
-pub mod rules;
-pub mod windows;
+// What each item does to one set. A rule sees attributes and state, never events or the listed mark, and answers an effect.
+mod windows;
 
-// Set identifiers, slot numbers and endurance group numbers: three kinds that can't be mixed.
-pub struct SetId(pub u16);
-
-pub struct Slot(pub usize);
-
-pub struct Group(pub u16);
-
-// A capacity of 16 bytes, as its lower and upper 64 bits.
-pub struct Capacity {
-    pub low: u64,
-    pub high: u64,
-}
-
-// Static: no item changes it. Times are in milliseconds.
-pub struct Attributes {
-    pub id: SetId,
-    pub group: Group,
-    pub random_read_typical: u32,
-    pub optimal_write_size: u32,
-    pub total: Capacity,
-    pub unallocated: Capacity,
-    pub reads_typical: u64,
-    pub writes_typical: u64,
-    pub time_maximum: u64,
-    pub minimum_high: u64,
-    pub minimum_low: u64,
-}
-
-// Off is the mode off: a set that is on is in D, the deterministic window, or in N, the non-deterministic one.
-pub enum Window {
-    Off,
-    D,
-    N,
-}
+ghost use mathlib.Core.Path.{_≡_};
+ghost use Prim.Native.Nat.{_+_};
+ghost use Rattle.record.specs.Record.{afresh, effectOf};
+ghost use Rattle.rules.specs.Rules.{still, onlyInD, causeOfMode, configure, tooEarly, entered, selecting, select, refusalNo, isOver, causeOver, carried, leaving, charge, readEvent, writeEvent, excursionEvent, recovery, tick, clearingRead};
+use crate::windows::moved;
+use crate::windows::refuses;
+use record::Attributes;
+use record::Config;
+use record::Effect;
+use record::Events;
+use record::Quantity;
+use record::State;
+use record::Window;
+use record::notices::an_excursion;
+use record::notices::and_exceeded;
+use record::notices::entering_d;
+use record::notices::no_events;
+use record::notices::warned;
+use record::notices::warning_of;
+use record::quantities::capped;
+use record::quantities::floored;
+use record::quantities::limit_of;
+use record::quantities::need_of;
+use record::quantities::passes;
+use record::quantities::reaches;
+use record::quantities::spent_of;
+use record::quantities::with_spent;
+use record::windows::same_window;
 
 // What can change a set's window.
 pub enum Cause {
@@ -59,63 +48,6 @@ pub enum Next {
     To(Window),
 }
 
-// What a set uses up in D: each has a limit, a count, a threshold and a warning.
-pub enum Quantity {
-    Reads,
-    Writes,
-    Time,
-}
-
-// The five event bits, in ENEV as in the event type: 0, 1 and 2 for the warnings, 14 for exceeded, 15 for excursion.
-pub struct Events {
-    pub reads: bool,
-    pub writes: bool,
-    pub time: bool,
-    pub exceeded: bool,
-    pub excursion: bool,
-}
-
-pub struct Thresholds {
-    pub reads: u64,
-    pub writes: u64,
-    pub time: u64,
-}
-
-// What Set Features 13h stores beside the mode: ENEV and the three thresholds.
-pub struct Config {
-    pub enabled: Events,
-    pub thresholds: Thresholds,
-}
-
-// What the rules read and change: reads, writes and time in D, and the time in N.
-pub struct State {
-    pub window: Window,
-    pub config: Config,
-    pub reads: u64,
-    pub writes: u64,
-    pub time: u64,
-    pub n_time: u64,
-}
-
-// What the host is told. No rule reads it.
-pub struct Notes {
-    pub events: Events,
-    pub listed: bool,
-}
-
-pub struct Record {
-    pub attributes: Attributes,
-    pub state: State,
-    pub notes: Notes,
-}
-
-// What an item does to a set: the state after it, the events that happened, and whether it was a clearing read.
-pub struct Effect {
-    pub state: State,
-    pub happened: Events,
-    pub clears: bool,
-}
-
 // Why a rule refuses.
 pub enum Refusal {
     WhileOff,
@@ -125,4 +57,247 @@ pub enum Refusal {
 pub enum Selected {
     Done(Effect),
     Refused(Refusal),
+}
+
+fn effect_of(state: State, happened: Events, clears: bool) -> Effect
+    ensures { λ r. ⌜ r ≡ effectOf state happened clears ⌝ }
+{
+    Effect {
+        state,
+        happened,
+        clears,
+    }
+}
+
+fn keep_still(s: State) -> Effect
+    ensures { λ r. ⌜ r ≡ still s ⌝ }
+{
+    effect_of(s, no_events(), false)
+}
+
+// Another window, with nothing spent in it and n ms of N time. The one place that makes a state.
+fn started(s: State, w: Window, n: u64) -> State
+    ensures { λ r. ⌜ r ≡ afresh s w n ⌝ }
+{
+    let c = s.config;
+    State {
+        window: w,
+        config: c,
+        reads: 0,
+        writes: 0,
+        time: 0,
+        n_time: n,
+    }
+}
+
+fn cause_of_mode(on: bool) -> Cause
+    ensures { λ r. ⌜ r ≡ causeOfMode on ⌝ }
+{
+    if on { Cause::Enable } else { Cause::Disable }
+}
+
+// Set Features 13h: enable or disable, with what it stores.
+pub fn set_mode(s: State, on: bool, c: Config) -> Effect
+    ensures { λ r. ⌜ r ≡ configure on c s ⌝ }
+{
+    let held = s.window;
+    let mut t = started(s, moved(held, cause_of_mode(on)), 0);
+    t.config = c;
+    keep_still(t)
+}
+
+fn too_early(a: Attributes, s: State, c: Cause) -> bool
+    ensures { λ r. ⌜ r ≡ tooEarly c a s ⌝ }
+{
+    let held = s.window;
+    let from_n = same_window(held, Window::N);
+    let to_d = same_window(moved(held, c), Window::D);
+    let need = need_of(a);
+    from_n & to_d & (s.n_time != need)
+}
+
+// Into another window, with the events of entering it.
+fn enter(a: Attributes, s: State, w: Window) -> Effect
+    ensures { λ r. ⌜ r ≡ entered w a s ⌝ }
+{
+    let c = s.config;
+    let t = started(s, w, 0);
+    match w {
+        Window::Off => keep_still(t),
+        Window::D => effect_of(t, entering_d(a, c), false),
+        Window::N => keep_still(t),
+    }
+}
+
+fn go_to_selected(a: Attributes, s: State, c: Cause) -> Effect
+    ensures { λ r. ⌜ r ≡ selecting c a s ⌝ }
+{
+    let held = s.window;
+    let w = moved(held, c);
+    if same_window(w, held) {
+        keep_still(s)
+    } else {
+        enter(a, s, w)
+    }
+}
+
+fn select_by(a: Attributes, s: State, c: Cause) -> Selected
+    ensures { λ r. ⌜ r ≡ select c a s ⌝ }
+{
+    let held = s.window;
+    if refuses(held, c) {
+        return Selected::Refused(Refusal::WhileOff);
+    }
+    if too_early(a, s, c) {
+        return Selected::Refused(Refusal::TooEarly);
+    }
+    Selected::Done(go_to_selected(a, s, c))
+}
+
+pub fn select_d(a: Attributes, s: State) -> Selected
+    ensures { λ r. ⌜ r ≡ select Cause.SelectD a s ⌝ }
+{
+    select_by(a, s, Cause::SelectD)
+}
+
+pub fn select_n(a: Attributes, s: State) -> Selected
+    ensures { λ r. ⌜ r ≡ select Cause.SelectN a s ⌝ }
+{
+    select_by(a, s, Cause::SelectN)
+}
+
+pub fn refusal_no(r: Refusal) -> u16
+    ensures { λ n. ⌜ n ≡ refusalNo r ⌝ }
+{
+    match r {
+        Refusal::WhileOff => 0x0002,
+        Refusal::TooEarly => 0x07C1,
+    }
+}
+
+// Reads and writes leave D past their typical, time at its maximum.
+fn is_over(q: Quantity, count: u64, k: u64, most: u64) -> bool
+    ensures { λ r. ⌜ r ≡ isOver q most (count + k) ⌝ }
+{
+    match q {
+        Quantity::Reads => passes(count, k, most),
+        Quantity::Writes => passes(count, k, most),
+        Quantity::Time => reaches(count, k, most),
+    }
+}
+
+fn cause_over(q: Quantity) -> Cause
+    ensures { λ r. ⌜ r ≡ causeOver q ⌝ }
+{
+    match q {
+        Quantity::Reads => Cause::Exceeded,
+        Quantity::Writes => Cause::Exceeded,
+        Quantity::Time => Cause::TimeUp,
+    }
+}
+
+// What count + k carries over into N. Of time the excess over the maximum, made of differences, so that no sum wraps.
+fn carried_over(a: Attributes, q: Quantity, count: u64, k: u64) -> u64
+    ensures { λ r. ⌜ r ≡ carried q a (count + k) ⌝ }
+{
+    match q {
+        Quantity::Reads => 0,
+        Quantity::Writes => 0,
+        Quantity::Time => {
+            let most = a.time_maximum;
+            let already = floored(count, most);
+            let more = floored(k, floored(most, count));
+            capped(already, more, need_of(a))
+        }
+    }
+}
+
+// Out of D, with the warning that was reckoned and bit 14.
+fn leave_d(a: Attributes, s: State, q: Quantity, k: u64, low: Events) -> Effect
+    ensures { λ r. ⌜ r ≡ leaving q k a s low ⌝ }
+{
+    let held = s.window;
+    let n = carried_over(a, q, spent_of(s, q), k);
+    let t = started(s, moved(held, cause_over(q)), n);
+    effect_of(t, and_exceeded(low), false)
+}
+
+// The estimate after is that before less k, so the sum is made only where it is within the limit.
+fn charge_by(a: Attributes, s: State, q: Quantity, k: u64) -> Effect
+    ensures { λ r. ⌜ r ≡ charge q k a s ⌝ }
+{
+    let most = limit_of(a, q);
+    let count = spent_of(s, q);
+    let c = s.config;
+    let before = floored(most, count);
+    let low = warning_of(q, warned(c, q, before, floored(before, k)));
+    if is_over(q, count, k, most) {
+        leave_d(a, s, q, k, low)
+    } else {
+        effect_of(with_spent(s, q, count + k), low, false)
+    }
+}
+
+fn charge_in_d(a: Attributes, s: State, q: Quantity, k: u64) -> Effect
+    ensures { λ r. ⌜ r ≡ onlyInD s (charge q k a s) ⌝ }
+{
+    let w = s.window;
+    match w {
+        Window::Off => keep_still(s),
+        Window::D => charge_by(a, s, q, k),
+        Window::N => keep_still(s),
+    }
+}
+
+pub fn read_event(a: Attributes, s: State, k: u16) -> Effect
+    ensures { λ r. ⌜ r ≡ readEvent k a s ⌝ }
+{
+    charge_in_d(a, s, Quantity::Reads, k as u64)
+}
+
+pub fn write_event(a: Attributes, s: State, k: u16) -> Effect
+    ensures { λ r. ⌜ r ≡ writeEvent k a s ⌝ }
+{
+    charge_in_d(a, s, Quantity::Writes, k as u64)
+}
+
+pub fn excursion_event(s: State) -> Effect
+    ensures { λ r. ⌜ r ≡ excursionEvent s ⌝ }
+{
+    let w = s.window;
+    match w {
+        Window::Off => keep_still(s),
+        Window::D => effect_of(
+            started(s, moved(w, Cause::Excursion), 0),
+            an_excursion(),
+            false,
+        ),
+        Window::N => keep_still(s),
+    }
+}
+
+fn recover(a: Attributes, s: State, t: u64) -> Effect
+    ensures { λ r. ⌜ r ≡ recovery t a s ⌝ }
+{
+    let mut r = s;
+    r.n_time = capped(s.n_time, t, need_of(a));
+    keep_still(r)
+}
+
+pub fn tick_event(a: Attributes, s: State, t: u32) -> Effect
+    ensures { λ r. ⌜ r ≡ tick t a s ⌝ }
+{
+    let w = s.window;
+    match w {
+        Window::Off => keep_still(s),
+        Window::D => charge_by(a, s, Quantity::Time, t as u64),
+        Window::N => recover(a, s, t as u64),
+    }
+}
+
+// A read of page 0Ah with Retain 0.
+pub fn clearing_read(s: State) -> Effect
+    ensures { λ r. ⌜ r ≡ clearingRead s ⌝ }
+{
+    effect_of(s, no_events(), true)
 }

@@ -1,11 +1,11 @@
 // The window changes: one constant table, three windows by seven causes.
 ghost use mathlib.Core.Path.{_≡_};
 ghost use Prim.Native.Nat.{_<_};
-ghost use mathlib.Core.Bool.{Bool};
-ghost use Rattle.rules.specs.Window.{windowNo, causeNo, next, movedTo, movedBy, refusedBy, sameWindow};
+ghost use Rattle.rules.specs.Changes.{causeNo, next, movedBy, refusedBy};
 use crate::Cause;
 use crate::Next;
-use crate::Window;
+use record::Window;
+use record::windows::window_no;
 
 const TO_OFF: Next = Next::To(Window::Off);
 
@@ -23,16 +23,6 @@ const CHANGES: [[Next; 7]; 3] = [
     [TO_N, TO_OFF, TO_D, TO_N, TO_N, TO_N, TO_N],
     [TO_N, TO_OFF, TO_D, TO_N, TO_N, NEVER, NEVER],
 ];
-
-pub fn window_no(w: Window) -> usize
-    ensures { λ r. ⌜ (r ≡ windowNo w) × (r < 3) ⌝ }
-{
-    match w {
-        Window::Off => 0,
-        Window::D => 1,
-        Window::N => 2,
-    }
-}
 
 fn cause_no(c: Cause) -> usize
     ensures { λ r. ⌜ (r ≡ causeNo c) × (r < 7) ⌝ }
@@ -77,10 +67,4 @@ pub fn refuses(w: Window, c: Cause) -> bool
         Next::Refuse => true,
         Next::To(_) => false,
     }
-}
-
-pub fn same_window(v: Window, w: Window) -> bool
-    ensures { λ r. ⌜ r ≡ sameWindow v w ⌝ }
-{
-    window_no(v) == window_no(w)
 }

@@ -1,6 +1,6 @@
 use mathlib.Core.Path.{sym, ap, _∙_}
 use borrow.Author.Needs.{needs}
-use Rattle.rules.specs.Window.{movedTo}
+use Rattle.rules.specs.Changes.{movedTo}
 use Rattle.rules.proofs.windows.moved.Statement.{statement}
 use Rattle.rules.proofs.windows.moved.Tie as tie
 

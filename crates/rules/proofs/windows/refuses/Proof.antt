@@ -1,6 +1,6 @@
 use mathlib.Core.Path.{sym, ap, _∙_}
 use borrow.Author.Needs.{needs}
-use Rattle.rules.specs.Window.{isRefuse}
+use Rattle.rules.specs.Changes.{isRefuse}
 use Rattle.rules.proofs.windows.refuses.Statement.{statement}
 use Rattle.rules.proofs.windows.refuses.Tie as tie
 

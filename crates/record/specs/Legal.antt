@@ -1,0 +1,84 @@
+-- 01, "Legal table", for one set. The window is none exactly when the mode is off, ENEV and event bits lie within C007h,
+-- and there are no unused bits: a record's types leave no other choice.
+use mathlib.Core.Path.{_≡_}
+use Prim.Native.Nat.{ℕ}
+use mathlib.Core.Bool.{Bool, true, false, not, _&&_, _||_}
+use lib.Dec.{leb, ltb, eqb}
+use Rattle.record.specs.declared.Capacity.{Capacity}
+use Rattle.record.specs.declared.Attributes.{Attributes}
+use Rattle.record.specs.declared.Events.{Events}
+use Rattle.record.specs.declared.State.{State}
+use Rattle.record.specs.declared.Notes.{Notes}
+use Rattle.record.specs.declared.Record.{Record}
+use Rattle.record.specs.declared.Effect.{Effect}
+use Rattle.record.specs.Record.{need}
+use Rattle.record.specs.Window.{byWindow}
+use Rattle.record.specs.Events.{settled}
+
+-- "identifier 1..65535; endurance group 1..65535"
+abbrev pub numberMaximum : ℕ
+numberMaximum = 65535
+
+-- "reads typical and writes typical, each 1..4,294,967,295"
+abbrev pub typicalMaximum : ℕ
+typicalMaximum = 4294967295
+
+-- "1..86,400,000 ms each": a day
+abbrev pub dayMs : ℕ
+dayMs = 86400000
+
+abbrev pub inRange : ℕ → ℕ → Bool
+inRange most x = leb 1 x && leb x most
+
+-- "unallocated not above total": by the upper 64 bits, and by the lower where those are equal
+abbrev pub notAbove : Capacity → Capacity → Bool
+notAbove x y = ltb (x .high) (y .high) || (eqb (x .high) (y .high) && leb (x .low) (y .low))
+
+-- "statics in range"
+abbrev pub legalAttributes : Attributes → Bool
+legalAttributes a =
+    inRange numberMaximum (a .id .0)
+    && inRange numberMaximum (a .group .0)
+    && notAbove (a .unallocated) (a .total)
+    && inRange typicalMaximum (a .«reads_typical»)
+    && inRange typicalMaximum (a .«writes_typical»)
+    && inRange dayMs (a .«time_maximum»)
+    && inRange dayMs (a .«minimum_high»)
+    && inRange dayMs (a .«minimum_low»)
+    && leb (a .«minimum_low») (a .«minimum_high»)
+
+-- "all zero outside D"
+abbrev pub noneSpent : State → Bool
+noneSpent s = eqb (s .reads) 0 && eqb (s .writes) 0 && eqb (s .time) 0
+
+-- "reads and writes at most their typicals and time below maximum"
+abbrev pub withinLimits : Attributes → State → Bool
+withinLimits a s = leb (s .reads) (a .«reads_typical») && leb (s .writes) (a .«writes_typical») && ltb (s .time) (a .«time_maximum»)
+
+-- "N time at most high and zero outside N"
+abbrev pub legalState : Attributes → State → Bool
+legalState a s =
+    byWindow (s .window)
+    (noneSpent s && eqb (s .«n_time») 0)
+    (withinLimits a s && eqb (s .«n_time») 0)
+    (noneSpent s && leb (s .«n_time») (need a))
+
+abbrev pub someEvent : Events → Bool
+someEvent e = e .reads || e .writes || e .time || e .exceeded || e .excursion
+
+-- "listed only if some event bit is set"
+abbrev pub legalNotes : Notes → Bool
+legalNotes n = not (n .listed) || someEvent (n .events)
+
+abbrev pub legalRecord : Record → Bool
+legalRecord r = legalAttributes (r .attributes) && legalState (r .attributes) (r .state) && legalNotes (r .notes)
+
+-- ---- what every rule keeps
+
+-- from a legal set, a rule leaves a state that is legal
+abbrev pub KeepsState : (Attributes → State → Effect) → Type 0
+KeepsState rule = (a : Attributes) (s : State) → legalAttributes a ≡ true → legalState a s ≡ true → legalState a (rule a s .state) ≡ true
+
+-- and, its events settled, a record that is legal
+abbrev pub KeepsRecord : (Attributes → State → Effect) → Type 0
+KeepsRecord rule = (r : Record) → legalRecord r ≡ true → legalRecord (settled r (rule (r .attributes) (r .state))) ≡ true

@@ -1,0 +1,4 @@
+pub mod Record
+pub mod Window
+pub mod Events
+pub mod Legal

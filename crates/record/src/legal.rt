@@ -1,0 +1,97 @@
+// Legality of one record, as a test.
+ghost use mathlib.Core.Path.{_≡_};
+ghost use Rattle.record.specs.Legal.{inRange, notAbove, legalAttributes, noneSpent, withinLimits, legalState, someEvent, legalNotes, legalRecord};
+use crate::Attributes;
+use crate::Capacity;
+use crate::Events;
+use crate::Notes;
+use crate::Record;
+use crate::State;
+use crate::Window;
+use crate::quantities::need_of;
+
+const NUMBER_MAXIMUM: u64 = 65535;
+
+const TYPICAL_MAXIMUM: u64 = 4294967295;
+
+const DAY_MS: u64 = 86400000;
+
+fn in_range(most: u64, x: u64) -> bool
+    ensures { λ r. ⌜ r ≡ inRange most x ⌝ }
+{
+    (1 <= x) & (x <= most)
+}
+
+fn not_above(x: Capacity, y: Capacity) -> bool
+    ensures { λ r. ⌜ r ≡ notAbove x y ⌝ }
+{
+    (x.high < y.high) | ((x.high == y.high) & (x.low <= y.low))
+}
+
+pub fn attributes_legal(a: Attributes) -> bool
+    ensures { λ r. ⌜ r ≡ legalAttributes a ⌝ }
+{
+    let total = a.total;
+    let unallocated = a.unallocated;
+    let id = in_range(NUMBER_MAXIMUM, a.id.0 as u64);
+    let group = in_range(NUMBER_MAXIMUM, a.group.0 as u64);
+    let capacity = not_above(unallocated, total);
+    let reads = in_range(TYPICAL_MAXIMUM, a.reads_typical);
+    let writes = in_range(TYPICAL_MAXIMUM, a.writes_typical);
+    let time = in_range(DAY_MS, a.time_maximum);
+    let high = in_range(DAY_MS, a.minimum_high);
+    let low = in_range(DAY_MS, a.minimum_low);
+    id & group & capacity & reads & writes & time & high & low & (a.minimum_low <= a.minimum_high)
+}
+
+fn none_spent(s: State) -> bool
+    ensures { λ r. ⌜ r ≡ noneSpent s ⌝ }
+{
+    (s.reads == 0) & (s.writes == 0) & (s.time == 0)
+}
+
+fn within_limits(a: Attributes, s: State) -> bool
+    ensures { λ r. ⌜ r ≡ withinLimits a s ⌝ }
+{
+    (s.reads <= a.reads_typical) & (s.writes <= a.writes_typical) & (s.time < a.time_maximum)
+}
+
+pub fn state_legal(a: Attributes, s: State) -> bool
+    ensures { λ r. ⌜ r ≡ legalState a s ⌝ }
+{
+    let none = none_spent(s);
+    let within = within_limits(a, s);
+    let need = need_of(a);
+    let w = s.window;
+    match w {
+        Window::Off => none & (s.n_time == 0),
+        Window::D => within & (s.n_time == 0),
+        Window::N => none & (s.n_time <= need),
+    }
+}
+
+fn some_event(e: Events) -> bool
+    ensures { λ r. ⌜ r ≡ someEvent e ⌝ }
+{
+    e.reads | e.writes | e.time | e.exceeded | e.excursion
+}
+
+pub fn notes_legal(n: Notes) -> bool
+    ensures { λ r. ⌜ r ≡ legalNotes n ⌝ }
+{
+    let events = n.events;
+    let some = some_event(events);
+    !n.listed | some
+}
+
+pub fn record_legal(r: Record) -> bool
+    ensures { λ b. ⌜ b ≡ legalRecord r ⌝ }
+{
+    let a = r.attributes;
+    let s = r.state;
+    let n = r.notes;
+    let x = attributes_legal(a);
+    let y = state_legal(a, s);
+    let z = notes_legal(n);
+    x & y & z
+}

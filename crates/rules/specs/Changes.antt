@@ -1,0 +1,51 @@
+-- 01, "Window changes": "Kept as one constant table, three windows by seven causes".
+use Prim.Native.Nat.{ℕ}
+use mathlib.Core.Bool.{Bool, true, false}
+use mathlib.Core.List.{List, [], _∷_}
+use lib.ListN.{getD}
+use Rattle.record.specs.declared.Window.{Window}
+use Rattle.record.specs.declared.Window.the-variants.{Off, D, N}
+use Rattle.record.specs.Window.{windowNo}
+use Rattle.rules.specs.declared.Cause.{Cause}
+use Rattle.rules.specs.declared.Cause.the-variants.{Enable, Disable, SelectD, SelectN, Excursion, Exceeded, TimeUp}
+use Rattle.rules.specs.declared.Next.{Next}
+use Rattle.rules.specs.declared.Next.the-variants.{Never, Refuse, To}
+
+-- the table's columns
+abbrev pub causeNo : Cause → ℕ
+causeNo Enable = 0
+causeNo Disable = 1
+causeNo SelectD = 2
+causeNo SelectN = 3
+causeNo Excursion = 4
+causeNo Exceeded = 5
+causeNo TimeUp = 6
+
+-- the table; its "if time is spent" is `tooEarly` of Rules
+abbrev pub changes : List (List Next)
+changes =
+    (To N ∷ To Off ∷ Refuse ∷ Refuse ∷ To Off ∷ Never ∷ Never ∷ [])
+    ∷ (To N ∷ To Off ∷ To D ∷ To N ∷ To N ∷ To N ∷ To N ∷ [])
+    ∷ (To N ∷ To Off ∷ To D ∷ To N ∷ To N ∷ Never ∷ Never ∷ [])
+    ∷ []
+
+-- the entry for a window and a cause
+abbrev pub next : Window → Cause → Next
+next w c = getD (getD changes (windowNo w) []) (causeNo c) Never
+
+-- the window that an entry leads to from w: w itself where it refuses, and where the cause never arises
+abbrev pub movedTo : Window → Next → Window
+movedTo w Never = w
+movedTo w Refuse = w
+movedTo w (To v) = v
+
+abbrev pub movedBy : Window → Cause → Window
+movedBy w c = movedTo w (next w c)
+
+abbrev pub isRefuse : Next → Bool
+isRefuse Never = false
+isRefuse Refuse = true
+isRefuse (To v) = false
+
+abbrev pub refusedBy : Window → Cause → Bool
+refusedBy w c = isRefuse (next w c)
