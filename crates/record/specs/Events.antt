@@ -1,6 +1,7 @@
 -- 01, "Estimates" and "Events".
-use Prim.Native.Nat.{ℕ, _+_, _*_, _-_}
+use Prim.Native.Nat.{ℕ, _+_, _*_, _-_, _/_, _%_, _^_}
 use mathlib.Core.Bool.{Bool, true, false, not, _&&_, _||_}
+use mathlib.Core.List.{List, [], _∷_}
 use lib.Dec.{ltb, leb, eqb}
 use Rattle.octets.specs.Choice.{if_then_else_}
 use Rattle.record.specs.declared.Attributes.{Attributes}
@@ -44,6 +45,13 @@ bit b = if b then 1 else 0
 -- as 16 bits: on pages, in the table, and in Set Features 13h
 abbrev pub bitsOf : Events → ℕ
 bitsOf e = bit (e .reads) + 2 * bit (e .writes) + 4 * bit (e .time) + 0x4000 * bit (e .exceeded) + 0x8000 * bit (e .excursion)
+
+-- the events of a 16-bit number: "masked with C007h", since the other bits are not looked at
+abbrev pub hasBit : ℕ → ℕ → Bool
+hasBit k x = eqb (x / 2 ^ k % 2) 1
+
+abbrev pub eventsIn : ℕ → Events
+eventsIn x = eventsOf (hasBit 0 x) (hasBit 1 x) (hasBit 2 x) (hasBit 14 x) (hasBit 15 x)
 
 -- the warning of one quantity, where b says so
 abbrev pub warning : Quantity → Bool → Events
@@ -102,3 +110,8 @@ settled r e =
         listed = not (e .clears) && r .notes .listed || anyEnabled (e .happened) (r .state .config .enabled);
       };
     }
+
+-- "The listed marks of all sets are gathered as one word of bits": the first set's is the lowest
+abbrev pub wordOf : List Bool → ℕ
+wordOf [] = 0
+wordOf (m ∷ ms) = wordOf ms * 2 + bit m

@@ -1,7 +1,8 @@
 // Estimates, warnings, and the one place that writes events and the listed mark.
 ghost use mathlib.Core.Path.{_≡_};
+ghost use Prim.Native.Nat.{_<_, _≤_};
 ghost use mathlib.Core.Bool.{Bool};
-ghost use Rattle.record.specs.Events.{estimate, eventsOf, noEvents, warning, warns, startsBelow, enteringD, andExceeded, anExcursion, anyEnabled, joined, settled};
+ghost use Rattle.record.specs.Events.{estimate, bit, bitsOf, eventsIn, eventsOf, noEvents, warning, warns, startsBelow, enteringD, andExceeded, anExcursion, anyEnabled, joined, settled};
 use crate::Attributes;
 use crate::Config;
 use crate::Effect;
@@ -29,6 +30,32 @@ pub fn estimate_of(a: Attributes, s: State, q: Quantity) -> u64
         Window::Off => 0,
         Window::D => floored(most, count),
         Window::N => { if s.n_time == need { most } else { 0 } }
+    }
+}
+
+pub fn bit_of(b: bool) -> u64
+    ensures { λ r. ⌜ (r ≡ bit b) × (r ≤ 1) ⌝ }
+{
+    if b { 1 } else { 0 }
+}
+
+// As 16 bits, and back: bits that stand for no event are not looked at.
+pub fn bits_of(e: Events) -> u64
+    ensures { λ r. ⌜ (r ≡ bitsOf e) × (r < 65536) ⌝ }
+{
+    let low = bit_of(e.reads) + 2 * bit_of(e.writes) + 4 * bit_of(e.time);
+    low + 0x4000 * bit_of(e.exceeded) + 0x8000 * bit_of(e.excursion)
+}
+
+pub fn events_in(x: u64) -> Events
+    ensures { λ r. ⌜ r ≡ eventsIn x ⌝ }
+{
+    Events {
+        reads: x / 0x0001 % 2 == 1,
+        writes: x / 0x0002 % 2 == 1,
+        time: x / 0x0004 % 2 == 1,
+        exceeded: x / 0x4000 % 2 == 1,
+        excursion: x / 0x8000 % 2 == 1,
     }
 }
 
