@@ -19,6 +19,10 @@ use Rattle.record.specs.Events.{settled}
 abbrev pub numberMaximum : ℕ
 numberMaximum = 65535
 
+-- "random read typical (4 bytes); optimal write size (4)"
+abbrev pub fourBytesMaximum : ℕ
+fourBytesMaximum = 4294967295
+
 -- "reads typical and writes typical, each 1..4,294,967,295"
 abbrev pub typicalMaximum : ℕ
 typicalMaximum = 4294967295
@@ -39,6 +43,8 @@ abbrev pub legalAttributes : Attributes → Bool
 legalAttributes a =
     inRange numberMaximum (a .id .0)
     && inRange numberMaximum (a .group .0)
+    && leb (a .«random_read_typical») fourBytesMaximum
+    && leb (a .«optimal_write_size») fourBytesMaximum
     && notAbove (a .unallocated) (a .total)
     && inRange typicalMaximum (a .«reads_typical»)
     && inRange typicalMaximum (a .«writes_typical»)

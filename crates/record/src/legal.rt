@@ -12,6 +12,9 @@ use crate::quantities::need_of;
 
 const NUMBER_MAXIMUM: u64 = 65535;
 
+// A field of 4 bytes holds no more: the type says it again.
+const FOUR_BYTES_MAXIMUM: u32 = 4294967295;
+
 const TYPICAL_MAXIMUM: u64 = 4294967295;
 
 const DAY_MS: u64 = 86400000;
@@ -35,13 +38,16 @@ pub fn attributes_legal(a: Attributes) -> bool
     let unallocated = a.unallocated;
     let id = in_range(NUMBER_MAXIMUM, a.id.0 as u64);
     let group = in_range(NUMBER_MAXIMUM, a.group.0 as u64);
+    let random = a.random_read_typical <= FOUR_BYTES_MAXIMUM;
+    let optimal = a.optimal_write_size <= FOUR_BYTES_MAXIMUM;
     let capacity = not_above(unallocated, total);
     let reads = in_range(TYPICAL_MAXIMUM, a.reads_typical);
     let writes = in_range(TYPICAL_MAXIMUM, a.writes_typical);
     let time = in_range(DAY_MS, a.time_maximum);
     let high = in_range(DAY_MS, a.minimum_high);
     let low = in_range(DAY_MS, a.minimum_low);
-    id & group & capacity & reads & writes & time & high & low & (a.minimum_low <= a.minimum_high)
+    let sizes = id & group & random & optimal & capacity;
+    sizes & reads & writes & time & high & low & (a.minimum_low <= a.minimum_high)
 }
 
 fn none_spent(s: State) -> bool

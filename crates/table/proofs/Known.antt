@@ -1,0 +1,93 @@
+-- What a legal table gives: its size, and of each slot a legal row.
+use mathlib.Core.Path.{_≡_, refl, sym, ap, _∙_}
+use mathlib.Core.Bool.{Bool, true, false, _&&_, and-true, and-false}
+use mathlib.Core.List.{List, [], _∷_, map}
+use Prim.Native.Nat.{ℕ, zero, suc, _+_, _*_, _≤_, _<_}
+use native.Mathlib.Omega.{arith}
+use native.Mathlib.Nat.{not-suc-le-zero, zero-add}
+use borrow.Author.Tests.{leb-true, le-leb, lt-leb}
+use lib.Dec.{ltb, leb}
+use lib.ListN.{length, getD, List·getD-eq-default}
+use Rattle.octets.proofs.Tests.{both, together}
+use Rattle.record.specs.declared.Record.{Record}
+use Rattle.record.specs.Legal.{inRange, legalRecord}
+use Rattle.table.specs.declared.Found.{Found}
+use Rattle.table.specs.declared.Entry.{Entry}
+use Rattle.table.specs.declared.Entry.the-variants.{Bad}
+use Rattle.table.specs.Layout.{wordsOf, recordOf}
+use Rattle.table.specs.Table.{maxSets, count, rowStart, row, rowsFrom, rows, recordsOf, idOf, legalRow, legalAfter, legalRows, legalSets, sized, legalTable, Legal, findIn, entryOf, enterIn}
+use Rattle.table.proofs.Records.{Row, row-of, words-legal, record-back}
+use Rattle.table.proofs.Slots.{rows-at, length-rows}
+
+pub record Sized (ws : List ℕ) : Type 0 where
+  pub some : 1 ≤ count ws
+  pub few : count ws ≤ maxSets
+  pub room : rowStart (count ws) ≤ length ws
+
+pub sized-known : (ws : List ℕ) → sized ws ≡ true → Sized ws
+sized-known ws h =
+    let p = both (inRange maxSets (count ws)) _ h in
+    let q = both (leb 1 (count ws)) _ (p .0) in
+    record { some = leb-true _ _ (q .0); few = leb-true _ _ (q .1); room = leb-true _ _ (p .1) }
+
+-- how the code finds it out
+pub sized-empty : (ws : List ℕ) → length ws ≡ 0 → sized ws ≡ false
+sized-empty ws h = let l : length ws ≤ 0 = omega arith in let e : count ws ≡ 0 = simp List·getD-eq-default in rw e
+
+pub sized-many : (ws : List ℕ) → maxSets < count ws → sized ws ≡ false
+sized-many ws h = rw (lt-leb (count ws) maxSets h, and-false)
+
+pub sized-few : (ws : List ℕ) → count ws ≤ maxSets → sized ws ≡ leb 1 (count ws) && leb (rowStart (count ws)) (length ws)
+sized-few ws h = rw (le-leb (count ws) maxSets h, and-true)
+
+pub legal-known : (ws : List ℕ) → legalTable ws ≡ true → Legal ws
+unfolding legalTable
+legal-known ws h =
+    let s = sized-known ws (both (sized ws) _ h .0) in
+    record { some = s .some; few = s .few; room = s .room; legal = h }
+
+pub rows-known : (ws : List ℕ) → Legal ws → legalRows 0 (rows ws) ≡ true
+unfolding legalTable
+rows-known ws l = both (sized ws) _ (l .legal) .1
+
+legal-at : (p k : ℕ) (rs : List (List ℕ)) → legalRows p rs ≡ true → k < length rs → legalRow (getD rs k []) ≡ true
+legal-at p k [] h l = absurd (not-suc-le-zero l)
+legal-at p zero (a ∷ rs) h l = both (legalRow a) _ (both (legalAfter p a) _ h .0) .0
+legal-at p (suc k) (a ∷ rs) h l = legal-at (idOf (recordOf a)) k rs (both (legalAfter p a) _ h .1) (omega arith)
+
+-- each slot of a legal table holds the words of a legal record
+pub slot-known : (ws : List ℕ) → Legal ws → (k : ℕ) → k < count ws → Row (row ws k)
+slot-known ws l k h =
+    let e : getD (rows ws) k [] ≡ row ws k = rows-at ws 0 k (count ws) h ∙ ap (row ws) (zero-add k) in
+    row-of (row ws k) (rw e at (legal-at 0 k (rows ws) (rows-known ws l) (omega (arith, length-rows ws 0 (count ws)))))
+
+-- ---- legality of rows is that of their records
+
+sets-of-rows : (p : ℕ) (rs : List (List ℕ)) → legalRows p rs ≡ true → legalSets p (map recordOf rs) ≡ true
+sets-of-rows p [] h = refl
+sets-of-rows p (a ∷ rs) h =
+    let q = both (legalAfter p a) _ h in
+    let s = both (legalRow a) _ (q .0) in
+    rw (row-of a (s .0) .legal, s .1) (sets-of-rows (idOf (recordOf a)) rs (q .1))
+
+pub rows-of-sets : (p : ℕ) (rs : List Record) → legalSets p rs ≡ true → legalRows p (map wordsOf rs) ≡ true
+rows-of-sets p [] h = refl
+rows-of-sets p (r ∷ rs) h =
+    let q = both (legalRecord r && ltb p (idOf r)) _ h in
+    let s = both (legalRecord r) _ (q .0) in
+    rw (words-legal r (s .0), record-back r (s .0), s .1) (rows-of-sets (idOf r) rs (q .1))
+
+pub sets-known : (ws : List ℕ) → Legal ws → legalSets 0 (recordsOf ws) ≡ true
+unfolding recordsOf
+sets-known ws l = sets-of-rows 0 (rows ws) (rows-known ws l)
+
+-- ---- the way into an item
+
+module _ (ws : List ℕ) (id : ℕ) where
+  pub enter-bad : legalTable ws ≡ false → Bad ≡ enterIn ws id
+  unfolding enterIn
+  enter-bad e = rw e
+
+  pub enter-found : (f : Found) → legalTable ws ≡ true → f ≡ findIn ws id → entryOf f ≡ enterIn ws id
+  unfolding enterIn
+  enter-found f e q = rw (e, q)

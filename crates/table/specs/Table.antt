@@ -1,0 +1,129 @@
+-- 01: "The table is a lent slice of 64-bit words": a header, then the sets, one row each. Words past it are not looked at.
+use mathlib.Core.Path.{_≡_}
+use mathlib.Core.Bool.{Bool, true, false, _&&_}
+use mathlib.Core.List.{List, [], _∷_, map}
+use Prim.Native.Nat.{ℕ, zero, suc, _+_, _*_, _≤_}
+use lib.Dec.{ltb, leb, eqb}
+use lib.ListN.{length, getD}
+use lib.Seq.{sets}
+use Rattle.octets.specs.Choice.{if_then_else_}
+use Rattle.octets.specs.Octets.{part}
+use Rattle.record.specs.declared.Record.{Record}
+use Rattle.record.specs.Events.{wordOf}
+use Rattle.record.specs.Legal.{inRange, legalRecord}
+use Rattle.table.specs.declared.Found.{Found}
+use Rattle.table.specs.declared.Found.the-variants.{At, Nothing}
+use Rattle.table.specs.declared.Entry.{Entry}
+use Rattle.table.specs.declared.Entry.the-variants.{Bad, Unknown, Here}
+use Rattle.table.specs.Layout.{rowWords, wordsOf, recordOf}
+
+-- "Up to 31 sets."
+abbrev pub maxSets : ℕ
+maxSets = 31
+
+-- the header's words: the number of sets
+abbrev pub headerWords : ℕ
+headerWords = 1
+
+abbrev pub count : List ℕ → ℕ
+count ws = getD ws 0 0
+
+-- where the row of a slot starts, which for the slot after the last is the table's length
+abbrev pub rowStart : ℕ → ℕ
+rowStart slot = headerWords + slot * rowWords
+
+-- the row of a slot, and the table with another row there
+abbrev pub row : List ℕ → ℕ → List ℕ
+row ws slot = part ws (rowStart slot) rowWords
+
+abbrev pub put : List ℕ → ℕ → List ℕ → List ℕ
+put ws slot a = sets ws (rowStart slot) a
+
+-- n rows from a slot on; all rows
+abbrev pub rowsFrom : List ℕ → ℕ → ℕ → List (List ℕ)
+rowsFrom ws slot zero = []
+rowsFrom ws slot (suc n) = row ws slot ∷ rowsFrom ws (suc slot) n
+
+abbrev pub rows : List ℕ → List (List ℕ)
+rows ws = rowsFrom ws 0 (count ws)
+
+-- the records of a table, in the order of its slots
+unfoldable pub recordsOf : List ℕ → List Record
+recordsOf ws = map recordOf (rows ws)
+
+abbrev pub idOf : Record → ℕ
+idOf r = r .attributes .id .0
+
+-- ---- legality
+
+abbrev pub sameWords : List ℕ → List ℕ → Bool
+sameWords [] [] = true
+sameWords [] (y ∷ ys) = false
+sameWords (x ∷ xs) [] = false
+sameWords (x ∷ xs) (y ∷ ys) = eqb x y && sameWords xs ys
+
+-- A row is legal exactly where it is the words of a legal record: so "window none exactly when off", "ENEV and event bits
+-- within C007h" and "unused bits zero" hold of its words.
+unfoldable pub legalRow : List ℕ → Bool
+legalRow a = sameWords a (wordsOf (recordOf a)) && legalRecord (recordOf a)
+
+-- "identifiers strictly rising": a legal row, its identifier above the one before
+abbrev pub legalAfter : ℕ → List ℕ → Bool
+legalAfter before a = legalRow a && ltb before (idOf (recordOf a))
+
+abbrev pub legalRows : ℕ → List (List ℕ) → Bool
+legalRows before [] = true
+legalRows before (a ∷ more) = legalAfter before a && legalRows (idOf (recordOf a)) more
+
+-- the same of records
+abbrev pub legalSets : ℕ → List Record → Bool
+legalSets before [] = true
+legalSets before (r ∷ rs) = legalRecord r && ltb before (idOf r) && legalSets (idOf r) rs
+
+-- "1 to 31 sets", and a slice that is not too short for them
+abbrev pub sized : List ℕ → Bool
+sized ws = inRange maxSets (count ws) && leb (rowStart (count ws)) (length ws)
+
+-- "Legal table"
+unfoldable pub legalTable : List ℕ → Bool
+legalTable ws = sized ws && legalRows 0 (rows ws)
+
+-- what a legal table has: some sets, not too many, and room for them
+pub record Legal (ws : List ℕ) : Type 0 where
+  pub some : 1 ≤ count ws
+  pub few : count ws ≤ maxSets
+  pub room : rowStart (count ws) ≤ length ws
+  pub legal : legalTable ws ≡ true
+
+-- ---- looking up, writing back, the marks
+
+-- the first slot from `slot` on whose record has this identifier
+abbrev pub findFrom : ℕ → ℕ → List Record → Found
+findFrom id slot [] = Nothing
+findFrom id slot (r ∷ rs) = if eqb (idOf r) id then At (record { 0 = slot }) else findFrom id (suc slot) rs
+
+unfoldable pub findIn : List ℕ → ℕ → Found
+findIn ws id = findFrom id 0 (recordsOf ws)
+
+-- the way into an item that names a set
+abbrev pub entryOf : Found → Entry
+entryOf (At slot) = Here slot
+entryOf Nothing = Unknown
+
+unfoldable pub enterIn : List ℕ → ℕ → Entry
+enterIn ws id = if legalTable ws then entryOf (findIn ws id) else Bad
+
+-- the table with these records in the slots from `slot` on
+abbrev pub writtenFrom : List ℕ → ℕ → List Record → List ℕ
+writtenFrom ws slot [] = ws
+writtenFrom ws slot (r ∷ rs) = writtenFrom (put ws slot (wordsOf r)) (suc slot) rs
+
+unfoldable pub written : List ℕ → List Record → List ℕ
+written ws rs = writtenFrom ws 0 rs
+
+-- the listed marks of all sets, as one word of bits
+abbrev pub listedMarks : List Record → List Bool
+listedMarks rs = map (λ r. r .notes .listed) rs
+
+abbrev pub listedWord : List Record → ℕ
+listedWord rs = wordOf (listedMarks rs)

@@ -1,0 +1,179 @@
+// The card's table in a lent slice of words: legality, the search for a set, one slot loaded and stored, and the listed
+// marks as one word. Words past the table are neither read nor written.
+pub mod rows;
+
+ghost use mathlib.Core.Path.{_≡_};
+ghost use mathlib.Core.List.{map};
+ghost use Prim.Native.Nat.{_+_, _*_, _<_, _≤_};
+ghost use lib.ListN.{length, replicate};
+ghost use lib.Seq.{sets};
+ghost use Rattle.table.specs.Layout.{wordsOf, recordOf};
+ghost use Rattle.table.specs.Table.{maxSets, count, rowStart, row, rows, put, sized, legalRows, legalTable, Legal, idOf, recordsOf, findIn, enterIn, listedWord};
+use crate::rows::HEADER;
+use crate::rows::LISTED;
+use crate::rows::ROW;
+use crate::rows::follows;
+use crate::rows::id_in;
+use crate::rows::record_of;
+use crate::rows::words_of;
+use record::Record;
+use record::SetId;
+use record::Slot;
+
+pub const MAX_SETS: usize = 31;
+
+pub enum Found {
+    At(Slot),
+    Nothing,
+}
+
+// What stands at an identifier: a table that is not legal, no such set, or its slot.
+pub enum Entry {
+    Bad,
+    Unknown,
+    Here(Slot),
+}
+
+// The row of a slot.
+fn fetch(table: &[u64], slot: usize) -> [u64; ROW]
+    requires { ⌜ rowStart (slot + 1) ≤ length (now table) ⌝ }
+    ensures { λ r. ⌜ r ≡ row (now (table .entry)) slot ⌝ }
+{
+    let mut a = [0u64; ROW];
+    let b = HEADER + slot * ROW;
+    let e = b + ROW;
+    octets::copy_words(&mut a, 0, &table[b..e]);
+    a
+}
+
+pub fn load(table: &[u64], slot: Slot) -> Record
+    requires { ⌜ rowStart (slot .0 + 1) ≤ length (now table) ⌝ }
+    ensures { λ r. ⌜ r ≡ recordOf (row (now (table .entry)) (slot .0)) ⌝ }
+{
+    let i = slot.0;
+    record_of(fetch(table, i))
+}
+
+pub fn store(table: &mut [u64], slot: Slot, r: Record)
+    requires { ⌜ rowStart (slot .0 + 1) ≤ length (now table) ⌝ }
+    ensures { λ _. ⌜ now (table .exit) ≡ put (now (table .entry)) (slot .0) (wordsOf r) ⌝ }
+{
+    let a = words_of(r);
+    let i = slot.0;
+    octets::copy_words(table, HEADER + i * ROW, &a);
+}
+
+fn wide(x: u64) -> usize
+    ensures { λ r. ⌜ r ≡ x ⌝ }
+{
+    x as usize
+}
+
+// The number of sets.
+pub fn count_of(table: &[u64]) -> usize
+    requires { ⌜ 1 ≤ length (now table) ⌝ }
+    ensures { λ r. ⌜ r ≡ count (now (table .entry)) ⌝ }
+{
+    wide(table[0])
+}
+
+// The count is held against the maximum before it is multiplied, so that no count wraps.
+fn fits(table: &[u64]) -> bool
+    ensures { λ r. ⌜ r ≡ sized (now (table .entry)) ⌝ }
+{
+    if table.len() == 0 {
+        return false;
+    }
+    let n = wide(table[0]);
+    if MAX_SETS < n {
+        return false;
+    }
+    (1 <= n) & (HEADER + n * ROW <= table.len())
+}
+
+fn rows_legal(table: &[u64], n: usize) -> bool
+    requires { ⌜ (n ≡ count (now table)) × (rowStart n ≤ length (now table)) ⌝ }
+    ensures { λ r. ⌜ r ≡ legalRows 0 (rows (now (table .entry))) ⌝ }
+{
+    let mut before = 0;
+    let mut i = 0;
+    while i < n {
+        let a = fetch(table, i);
+        if follows(before, a) {
+            before = id_in(a);
+        } else {
+            return false;
+        }
+        i += 1;
+    }
+    true
+}
+
+pub fn legal(table: &[u64]) -> bool
+    ensures { λ r. ⌜ r ≡ legalTable (now (table .entry)) ⌝ }
+{
+    if fits(table) {
+        rows_legal(table, wide(table[0]))
+    } else {
+        false
+    }
+}
+
+pub fn find(table: &[u64], id: SetId) -> Found
+    requires { ⌜ Legal (now table) ⌝ }
+    ensures { λ r. ⌜ r ≡ findIn (now (table .entry)) (id .0) ⌝ }
+{
+    let n = wide(table[0]);
+    let want = id.0 as u64;
+    let mut i = 0;
+    while i < n {
+        if table[HEADER + i * ROW] == want {
+            return Found::At(Slot(i));
+        }
+        i += 1;
+    }
+    Found::Nothing
+}
+
+// The way into every item that names a set.
+pub fn enter(table: &[u64], id: SetId) -> Entry
+    ensures { λ r. ⌜ r ≡ enterIn (now (table .entry)) (id .0) ⌝ }
+{
+    if legal(table) {
+        match find(table, id) {
+            Found::At(slot) => Entry::Here(slot),
+            Found::Nothing => Entry::Unknown,
+        }
+    } else {
+        Entry::Bad
+    }
+}
+
+// The listed marks, gathered from the last slot to the first: the first set's is the lowest bit.
+pub fn listed_word(table: &[u64]) -> u64
+    requires { ⌜ Legal (now table) ⌝ }
+    ensures { λ r. ⌜ r ≡ listedWord (recordsOf (now (table .entry))) ⌝ }
+{
+    let mut word: u64 = 0;
+    let mut i = wide(table[0]);
+    while 0 < i {
+        i -= 1;
+        word = word * 2 + table[HEADER + i * ROW + LISTED];
+    }
+    word
+}
+
+// The identifiers of all sets by slot, then zeros.
+pub fn identifiers(table: &[u64]) -> [u64; MAX_SETS]
+    requires { ⌜ Legal (now table) ⌝ }
+    ensures { λ r. ⌜ r ≡ sets (replicate maxSets 0) 0 (map idOf (recordsOf (now (table .entry)))) ⌝ }
+{
+    let n = wide(table[0]);
+    let mut ids = [0u64; MAX_SETS];
+    let mut i = 0;
+    while i < n {
+        ids[i] = table[HEADER + i * ROW];
+        i += 1;
+    }
+    ids
+}
