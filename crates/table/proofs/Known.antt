@@ -11,9 +11,12 @@ use lib.ListN.{length, getD, List·getD-eq-default}
 use Rattle.octets.proofs.Tests.{both, together}
 use Rattle.record.specs.declared.Record.{Record}
 use Rattle.record.specs.Legal.{inRange, legalRecord}
+use Rattle.octets.specs.Choice.{if_then_else_}
+use Rattle.record.specs.declared.Slot.{Slot}
 use Rattle.table.specs.declared.Found.{Found}
+use Rattle.table.specs.declared.Found.the-variants.{At, Nothing}
 use Rattle.table.specs.declared.Entry.{Entry}
-use Rattle.table.specs.declared.Entry.the-variants.{Bad}
+use Rattle.table.specs.declared.Entry.the-variants.{Bad, Unknown, Here}
 use Rattle.table.specs.Layout.{wordsOf, recordOf}
 use Rattle.table.specs.Table.{maxSets, count, rowStart, row, rowsFrom, rows, recordsOf, idOf, legalRow, legalAfter, legalRows, legalSets, sized, legalTable, Legal, findIn, entryOf, enterIn}
 use Rattle.table.proofs.Records.{Row, row-of, words-legal, record-back}
@@ -91,3 +94,41 @@ module _ (ws : List ℕ) (id : ℕ) where
   pub enter-found : (f : Found) → legalTable ws ≡ true → f ≡ findIn ws id → entryOf f ≡ enterIn ws id
   unfolding enterIn
   enter-found f e q = rw (e, q)
+
+-- what each way in tells
+bad-here : (s : Slot) → Bad ≡ Here s → ⊥
+bad-here s e = let z : _≡_ {A = ℕ} 0 1 = cc in omega arith
+
+bad-unknown : Bad ≡ Unknown → ⊥
+bad-unknown e = let z : _≡_ {A = ℕ} 0 1 = cc in omega arith
+
+unknown-here : (s : Slot) → Unknown ≡ Here s → ⊥
+unknown-here s e = let z : _≡_ {A = ℕ} 0 1 = cc in omega arith
+
+opened-bad : (b : Bool) (f : Found) → (if b then entryOf f else Bad) ≡ Bad → b ≡ false
+opened-bad true (At s) e = absurd (bad-here s (sym e))
+opened-bad true Nothing e = absurd (bad-unknown (sym e))
+opened-bad false f e = refl
+
+opened-unknown : (b : Bool) (f : Found) → (if b then entryOf f else Bad) ≡ Unknown → (b ≡ true) × (f ≡ Nothing)
+opened-unknown true (At s) e = absurd (unknown-here s (sym e))
+opened-unknown true Nothing e = (refl, refl)
+opened-unknown false f e = absurd (bad-unknown e)
+
+opened-here : (b : Bool) (f : Found) (s : Slot) → (if b then entryOf f else Bad) ≡ Here s → (b ≡ true) × (f ≡ At s)
+opened-here true (At t) s e = (refl, cc)
+opened-here true Nothing s e = absurd (unknown-here s e)
+opened-here false f s e = absurd (bad-here s e)
+
+module _ (ws : List ℕ) (id : ℕ) where
+  pub is-bad : enterIn ws id ≡ Bad → legalTable ws ≡ false
+  unfolding enterIn
+  is-bad e = opened-bad (legalTable ws) (findIn ws id) e
+
+  pub is-unknown : enterIn ws id ≡ Unknown → (legalTable ws ≡ true) × (findIn ws id ≡ Nothing)
+  unfolding enterIn
+  is-unknown e = opened-unknown (legalTable ws) (findIn ws id) e
+
+  pub is-here : (s : Slot) → enterIn ws id ≡ Here s → (legalTable ws ≡ true) × (findIn ws id ≡ At s)
+  unfolding enterIn
+  is-here s e = opened-here (legalTable ws) (findIn ws id) s e

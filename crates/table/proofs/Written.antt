@@ -16,7 +16,7 @@ use Rattle.table.specs.Table.{count, rowStart, row, put, rowsFrom, rows,
 use Rattle.table.proofs.Records.{Row, length-words, record-back}
 use Rattle.table.proofs.Slots.{put-self, length-put, count-put, rest-put, row-same, row-other, rows-other, length-rows}
 use Rattle.table.proofs.Known.{slot-known, rows-of-sets}
-use Rattle.table.proofs.Turns.{later, later-none, later-more}
+use Rattle.table.proofs.Turns.{later, later-none, later-more, later-all}
 
 -- ---- records written where they came from, and one of them changed
 
@@ -68,6 +68,10 @@ written-one ws l k r h =
 abbrev pub leftToDo : (Record → Record) → List ℕ → ℕ → ℕ → List ℕ
 leftToDo f ws n i = writtenFrom ws i (map f (later ws n i))
 
+pub all-start : (f : Record → Record) (ws : List ℕ) (n : ℕ) → n ≡ count ws → leftToDo f ws n 0 ≡ written ws (map f (recordsOf ws))
+unfolding written
+all-start f ws n e = ap (λ (rs : List Record). writtenFrom ws 0 (map f rs)) (later-all ws n e)
+
 pub all-end : (f : Record → Record) (ws : List ℕ) (n i : ℕ) → n ≤ i → leftToDo f ws n i ≡ ws
 all-end f ws n i h = rw (later-none ws n i h)
 
@@ -75,6 +79,12 @@ pub all-turn : (f : Record → Record) (ws : List ℕ) (n i : ℕ) → i < n →
 all-turn f ws n i h =
     let r = f (recordOf (row ws i)) in
     rw (later-more ws n i h, add-one, rows-other ws i (wordsOf r) (length-words r) (suc i) (n - suc i) (omega arith))
+
+-- the record that was loaded, the record that the rule made of it, and the table that has it
+pub all-again :
+    (f : Record → Record) (ws : List ℕ) (n i : ℕ) (goal : List ℕ) → leftToDo f ws n i ≡ goal → i < n → (r x : Record) (vs : List ℕ)
+    → r ≡ recordOf (row ws i) → x ≡ f r → vs ≡ put ws i (wordsOf x) → leftToDo f vs n (i + 1) ≡ goal
+all-again f ws n i goal inv h r x vs er ex ev = rw (ev, ex, er) (all-turn f ws n i h ∙ inv)
 
 -- ---- what is read back
 

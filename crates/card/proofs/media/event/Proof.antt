@@ -1,0 +1,27 @@
+use borrow.Author.Needs.{needs}
+use Rattle.card.proofs.Events.{entered, event-bad, event-unknown, event-here}
+use Rattle.card.proofs.media.event.Statement.{statement}
+use Rattle.card.proofs.media.event.Tie as tie
+
+pub event-spec : {M : Type 1} → statement M
+event-spec =
+    tie.close
+    (tie.spec
+    (λ c κs. search needs)
+    (λ c. search needs)
+    (λ c. search needs)
+    (λ c. search needs)
+    (λ c κs. let m = c .before .before in entered _ _ _ _ (m .before .before .enter .ensures) (m .e .given .1))
+    (λ c κs. search needs)
+    (λ c κs. let m = c .before .before .before .before .before in entered _ _ _ _ (m .before .before .enter .ensures) (m .e .given .1))
+    (λ c. search needs)
+    (λ c. let p = c .before .before in event-bad _ _ (p .before .before .before .args .m) _ (p .enter .ensures) (c .enum-told .given .1))
+    (λ c. search needs)
+    (λ c. let p = c .before .before in event-unknown _ _ (p .before .before .before .args .m) _ (p .enter .ensures) (c .enum-told2 .given .1))
+    (λ c. search needs)
+    (λ c.
+    let t = c .before .before in
+    let r = t .before .before .before in
+    let m = r .before .before .before in
+    let p = m .before .before in
+    event-here _ _ (p .before .before .before .args .m) _ (p .enter .ensures) _ (m .e .given .1) _ _ _ (r .load .ensures) (t .before .after-event .ensures) (t .store .ensures)))

@@ -1,0 +1,26 @@
+use mathlib.Core.Path.{sym, _∙_}
+use native.Mathlib.Omega.{arith}
+use borrow.Author.Needs.{needs}
+use Rattle.table.proofs.Known.{legal-known}
+use Rattle.card.proofs.Events.{bad, tick-long, tick-done}
+use Rattle.card.proofs.media.ticks.Statement.{statement}
+use Rattle.card.proofs.media.ticks.Tie as tie
+
+pub ticks-spec : {M : Type 1} → statement M
+ticks-spec =
+    tie.close
+    (tie.spec
+    (λ c κs. search needs)
+    (λ c. search needs)
+    (λ c. let t = c .before in tick-long _ _ (sym (t .before .legal .ensures) ∙ t .if1 .taken) (c .if2 .taken))
+    (λ c κs. let t = c .before .before in omega (arith, legal-known _ (sym (t .before .legal .ensures) ∙ t .if1 .taken) .room))
+    (λ c κs.
+    let t = c .before .before .before .before in
+    (c .before .count-of .ensures, legal-known _ (sym (t .before .legal .ensures) ∙ t .if1 .taken)))
+    (λ c. search needs)
+    (λ c.
+    let s = c .before .before .before .before .before .before in
+    let t = s .before in
+    tick-done _ _ (sym (t .before .legal .ensures) ∙ t .if1 .taken) (s .if2 .left) _ (c .before .before .tick-all .ensures))
+    (λ c. search needs)
+    (λ c. bad _ _ (sym (c .before .legal .ensures) ∙ c .if1 .left)))

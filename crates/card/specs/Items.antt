@@ -1,0 +1,49 @@
+-- Items, and the three shapes that an item's meaning can have.
+use Prim.Native.Nat.{ℕ}
+use mathlib.Core.List.{List}
+use Rattle.record.specs.declared.Attributes.{Attributes}
+use Rattle.record.specs.declared.State.{State}
+use Rattle.record.specs.declared.Record.{Record}
+use Rattle.record.specs.declared.Effect.{Effect}
+use Rattle.replies.specs.Status.{Line}
+use Rattle.replies.specs.Answers.{Answer}
+
+-- what the card keeps
+pub record Card : Type 0 where
+  pub sets : List Record
+
+-- what may be handed in: media events and ticks
+pub data Item : Type 0 where
+  reads : (id k : ℕ) → Item
+  writes : (id k : ℕ) → Item
+  excursion : (id : ℕ) → Item
+  tick : (t : ℕ) → Item
+
+-- An item that names a set: the refusals before the look-up, the number for a set that is not in the table, the refusals
+-- that look at the set; then what it does to the set, and what it answers.
+-- A rule sees a set's attributes and state, never its events and its listed mark; an answer may show all.
+pub record One : Type 0 where
+  pub early : List Line
+  pub unknown : ℕ
+  pub late : Attributes → State → List Line
+  pub rule : Attributes → State → Effect
+  pub done : Record → Answer
+
+-- An item that goes to every set: its refusals, the last for want of room, so much for each set; what it does to each set,
+-- and the data that each adds to the answer.
+pub record All : Type 0 where
+  pub early : List Line
+  pub each : ℕ
+  pub room : ℕ
+  pub rule : Attributes → State → Effect
+  pub part : Record → List ℕ
+
+-- An item that names no set and changes none: its refusals, and an answer made from the card.
+pub record View : Type 0 where
+  pub early : Card → List Line
+  pub done : Card → Answer
+
+pub data Meaning : Type 0 where
+  Nobody : View → Meaning
+  Everybody : All → Meaning
+  The : ℕ → One → Meaning

@@ -1,0 +1,6 @@
+pub mod Lists
+pub mod Items
+pub mod Meanings
+pub mod Card
+pub mod Words
+pub mod Media

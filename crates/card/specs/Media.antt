@@ -1,0 +1,25 @@
+-- The media layer's events as items, for the functions of src/media.rt.
+use Prim.Native.Nat.{ℕ}
+use Rattle.record.specs.declared.Attributes.{Attributes}
+use Rattle.record.specs.declared.State.{State}
+use Rattle.record.specs.declared.Record.{Record}
+use Rattle.record.specs.declared.Effect.{Effect}
+use Rattle.record.specs.Events.{settled}
+use Rattle.rules.specs.Rules as rules
+use Rattle.card.specs.declared.media.Media.{Media}
+use Rattle.card.specs.declared.media.Media.the-variants.{Reads, Writes, Excursion}
+use Rattle.card.specs.Items.{Item, reads, writes, excursion}
+
+abbrev pub itemOf : ℕ → Media → Item
+itemOf id (Reads k) = reads id k
+itemOf id (Writes k) = writes id k
+itemOf id Excursion = excursion id
+
+abbrev pub effectOf : Media → Attributes → State → Effect
+effectOf (Reads k) a s = rules.readEvent k a s
+effectOf (Writes k) a s = rules.writeEvent k a s
+effectOf Excursion a s = rules.excursionEvent s
+
+-- the record after a tick of t
+abbrev pub tickOne : ℕ → Record → Record
+tickOne t r = settled r (rules.tick t (r .attributes) (r .state))

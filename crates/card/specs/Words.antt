@@ -1,0 +1,32 @@
+-- The step on the lent words.
+use mathlib.Core.Path.{_≡_}
+use mathlib.Core.List.{List}
+use Prim.Native.Nat.{ℕ}
+use Rattle.octets.specs.Choice.{if_then_else_}
+use Rattle.replies.specs.Numbers.{badTable}
+use Rattle.replies.specs.Answers.{Answer, refused}
+use Rattle.table.specs.Table.{recordsOf, legalTable, written}
+use Rattle.card.specs.Items.{Card, Item}
+use Rattle.card.specs.Card.{step}
+
+-- the card that a table holds
+abbrev pub cardOf : List ℕ → Card
+cardOf ws = record { sets = recordsOf ws }
+
+-- the words afterwards, and the answer
+pub record Result : Type 0 where
+  pub table : List ℕ
+  pub answer : Answer
+
+-- 01: "table not legal, or slice too short: 07C3h", nothing changed. Else the card's step, written back.
+unfoldable pub stepWords : List ℕ → Item → Result
+stepWords ws i =
+    if legalTable ws
+    then record { table = written ws (step (cardOf ws) i .card .sets); answer = step (cardOf ws) i .answer }
+    else record { table = ws; answer = refused badTable }
+
+-- What a media event or a tick promises: the words that it leaves, and the number that it answers.
+-- (Its dword 0 is zero and it has no data: `plain` of proofs/Plain.antt.)
+pub record Stepped (ws : List ℕ) (i : Item) (after : List ℕ) (number : ℕ) : Type 0 where
+  pub table : after ≡ stepWords ws i .table
+  pub status : number ≡ stepWords ws i .answer .status

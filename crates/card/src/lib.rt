@@ -1,0 +1,2 @@
+// The card: media events and ticks on a lent table of words.
+pub mod media;

@@ -1,0 +1,125 @@
+// Media events and ticks.
+ghost use mathlib.Core.Path.{_≡_};
+ghost use mathlib.Core.List.{map};
+ghost use Prim.Native.Nat.{_≤_};
+ghost use lib.ListN.{length};
+ghost use Rattle.record.specs.Events.{settled};
+ghost use Rattle.rules.specs.Rules.{tick};
+ghost use Rattle.table.specs.Table.{count, rowStart, Legal, recordsOf, written};
+ghost use Rattle.card.specs.Items.{Item};
+ghost use Rattle.card.specs.Media.{effectOf, itemOf, tickOne};
+ghost use Rattle.card.specs.Words.{Stepped};
+use record::Attributes;
+use record::Effect;
+use record::Record;
+use record::SetId;
+use record::Slot;
+use record::State;
+use record::notices::settle;
+use rules::excursion_event;
+use rules::read_event;
+use rules::tick_event;
+use rules::write_event;
+use table::Entry;
+use table::enter;
+use table::legal;
+use table::load;
+use table::store;
+
+// What the media layer reports of one set.
+pub enum Media {
+    Reads(u16),
+    Writes(u16),
+    Excursion,
+}
+
+fn effect_of(a: Attributes, s: State, m: Media) -> Effect
+    ensures { λ r. ⌜ r ≡ effectOf m a s ⌝ }
+{
+    match m {
+        Media::Reads(k) => read_event(a, s, k),
+        Media::Writes(k) => write_event(a, s, k),
+        Media::Excursion => excursion_event(s),
+    }
+}
+
+// The record after an event.
+fn after_event(r: Record, m: Media) -> Record
+    ensures { λ x. ⌜ x ≡ settled r (effectOf m (r .attributes) (r .state)) ⌝ }
+{
+    let a = r.attributes;
+    let s = r.state;
+    let e = effect_of(a, s, m);
+    settle(r, e)
+}
+
+pub fn event(table: &mut [u64], id: SetId, m: Media) -> u16
+    ensures { λ r. ⌜ Stepped (now (table .entry)) (itemOf (id .0) m) (now (table .exit)) r ⌝ }
+{
+    let e = enter(table, id);
+    match e {
+        Entry::Bad => 0x07C3,
+        Entry::Unknown => 0x07C0,
+        Entry::Here(slot) => {
+            let r = load(table, slot);
+            store(table, slot, after_event(r, m));
+            0
+        }
+    }
+}
+
+pub fn reads(table: &mut [u64], id: SetId, k: u16) -> u16
+    ensures { λ r. ⌜ Stepped (now (table .entry)) (Item.reads (id .0) k) (now (table .exit)) r ⌝ }
+{
+    event(table, id, Media::Reads(k))
+}
+
+pub fn writes(table: &mut [u64], id: SetId, k: u16) -> u16
+    ensures { λ r. ⌜ Stepped (now (table .entry)) (Item.writes (id .0) k) (now (table .exit)) r ⌝ }
+{
+    event(table, id, Media::Writes(k))
+}
+
+pub fn excursion(table: &mut [u64], id: SetId) -> u16
+    ensures { λ r. ⌜ Stepped (now (table .entry)) (Item.excursion (id .0)) (now (table .exit)) r ⌝ }
+{
+    event(table, id, Media::Excursion)
+}
+
+fn after_tick(r: Record, t: u32) -> Record
+    ensures { λ x. ⌜ x ≡ tickOne t r ⌝ }
+{
+    let a = r.attributes;
+    let s = r.state;
+    let e = tick_event(a, s, t);
+    settle(r, e)
+}
+
+fn tick_all(table: &mut [u64], n: usize, t: u32)
+    requires { ⌜ (n ≡ count (now table)) × Legal (now table) ⌝ }
+    ensures { λ _. ⌜ now (table .exit) ≡ written (now (table .entry)) (map (tickOne t) (recordsOf (now (table .entry)))) ⌝ }
+{
+    let mut i = 0;
+    while i < n {
+        let r = load(table, Slot(i));
+        store(table, Slot(i), after_tick(r, t));
+        i += 1;
+    }
+}
+
+const DAY_MS: u32 = 86400000;
+
+pub fn ticks(table: &mut [u64], t: u32) -> u16
+    ensures { λ r. ⌜ Stepped (now (table .entry)) (Item.tick t) (now (table .exit)) r ⌝ }
+{
+    if legal(table) {
+        if DAY_MS < t {
+            return 0x07C5;
+        }
+        let n = table::count_of(table);
+        tick_all(table, n, t);
+        0
+    } else {
+        0x07C3
+    }
+}
