@@ -3,3 +3,4 @@ pub mod Shapes
 pub mod Slots
 pub mod Frame
 pub mod Events
+pub mod Kept
