@@ -15,7 +15,7 @@ use Rattle.rules.specs.Rules as rules
 use Rattle.rules.proofs.Keeps.{keeps-record, read-event-keeps, write-event-keeps, excursion-keeps, tick-keeps}
 use Rattle.table.specs.Table.{idOf, recordsOf, legalSets, legalTable, Legal}
 use Rattle.table.proofs.Known.{legal-known, sets-known}
-use Rattle.table.proofs.Written.{written-back, written-legal}
+use Rattle.table.proofs.Written.{legal-sized, written-back, written-legal}
 use Rattle.card.specs.Items.{Card, Item, reads, writes, excursion, tick, Meaning, Nobody, Everybody, The}
 use Rattle.card.specs.Meanings.{meaning}
 use Rattle.card.specs.Card.{statusAt, effectBy, effectOn, ruled, concerns, touched, after, step}
@@ -69,9 +69,9 @@ module _ (ws : List ℕ) (i : Item) (e : legalTable ws ≡ true) where
 
   pub step-keeps : legalTable (stepWords ws i .table) ≡ true
   step-keeps =
-      rw (step-legal ws i e) (written-legal ws (legal-known ws e) (after (cardOf ws) i .sets) (as-many ∙ length-records ws) after-legal)
+      rw (step-legal ws i e) (written-legal ws (legal-sized ws (legal-known ws e)) (after (cardOf ws) i .sets) (as-many ∙ length-records ws) after-legal)
 
   pub step-back : cardOf (stepWords ws i .table) ≡ step (cardOf ws) i .card
   step-back =
-      let b = written-back ws (legal-known ws e) (after (cardOf ws) i .sets) (as-many ∙ length-records ws) after-legal in
+      let b = written-back ws (legal-sized ws (legal-known ws e)) (after (cardOf ws) i .sets) (as-many ∙ length-records ws) after-legal in
       rw (step-legal ws i e, b)

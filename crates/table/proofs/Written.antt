@@ -15,7 +15,7 @@ use Rattle.table.specs.Layout.{rowWords, wordsOf, recordOf}
 use Rattle.table.specs.Table.{count, rowStart, row, put, rowsFrom, rows, recordsOf, idOf, legalRows, legalSets, sized, legalTable, Legal, writtenFrom, written}
 use Rattle.table.proofs.Records.{Row, length-words, record-back}
 use Rattle.table.proofs.Slots.{put-self, length-put, count-put, rest-put, row-same, row-other, rows-other, length-rows}
-use Rattle.table.proofs.Known.{slot-known, rows-of-sets}
+use Rattle.table.proofs.Known.{slot-known, rows-of-sets, sized-known}
 use Rattle.table.proofs.Turns.{later, later-none, later-more, later-all}
 
 -- ---- records written where they came from, and one of them changed
@@ -121,11 +121,12 @@ records-back p (r ∷ rs) h =
     let q = both (legalRecord r && ltb p (idOf r)) _ h in
     ap₂ _∷_ (record-back r (both (legalRecord r) _ (q .0) .0)) (records-back (idOf r) rs (q .1))
 
--- as many legal sets, rising, written over a legal table: they are read back, the table is legal, the rest is as it was
-module _ (ws : List ℕ) (l : Legal ws) (rs : List Record) (same : length rs ≡ count ws) (h : legalSets 0 rs ≡ true) where
+-- as many legal sets, rising, as the header says, written over words that have room for them: they are read back, the table
+-- is legal, and the words past it are as they were
+module _ (ws : List ℕ) (z : sized ws ≡ true) (rs : List Record) (same : length rs ≡ count ws) (h : legalSets 0 rs ≡ true) where
   written-rows : rows (written ws rs) ≡ map wordsOf rs
   unfolding written
-  written-rows = rw (from-count ws 0 rs, ← same) (from-rows ws 0 rs (omega (arith, l .room)))
+  written-rows = rw (from-count ws 0 rs, ← same) (from-rows ws 0 rs (omega (arith, sized-known ws z .room)))
 
   pub written-back : recordsOf (written ws rs) ≡ rs
   unfolding recordsOf
@@ -133,10 +134,12 @@ module _ (ws : List ℕ) (l : Legal ws) (rs : List Record) (same : length rs ≡
 
   pub written-legal : legalTable (written ws rs) ≡ true
   unfolding legalTable written
-  written-legal =
-      let s = both (sized ws) _ (l .legal) in
-      together (sized (written ws rs)) _ (rw (from-count ws 0 rs, from-length ws 0 rs) (s .0)) (rw written-rows (rows-of-sets 0 rs h))
+  written-legal = together (sized (written ws rs)) _ (rw (from-count ws 0 rs, from-length ws 0 rs) z) (rw written-rows (rows-of-sets 0 rs h))
 
   pub written-rest : drop (rowStart (count ws)) (written ws rs) ≡ drop (rowStart (count ws)) ws
   unfolding written
   written-rest = from-rest ws 0 (count ws) rs (omega arith)
+
+pub legal-sized : (ws : List ℕ) → Legal ws → sized ws ≡ true
+unfolding legalTable
+legal-sized ws l = both (sized ws) _ (l .legal) .0
