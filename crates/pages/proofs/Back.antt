@@ -1,14 +1,21 @@
 -- What is laid out is read back.
 use mathlib.Core.Path.{_≡_, refl, ap, _∙_}
+use mathlib.Core.Bool.{Bool, true, false}
 use mathlib.Core.List.{List, [], _∷_}
 use Prim.Native.Nat.{ℕ, _+_, _^_, _≤_, _<_}
 use native.Mathlib.Omega.{arith}
+use borrow.Author.Needs.{needs}
 use lib.ListN.{length, getD}
 use lib.Seq.{sets}
 use Rattle.octets.specs.Pages.{Fit}
 use Rattle.octets.proofs.Pages.{read-back}
 use Rattle.record.specs.declared.Attributes.{Attributes}
+use Rattle.record.specs.declared.Events.{Events}
+use Rattle.record.specs.declared.Config.{Config}
+use Rattle.record.specs.Events.{bit, bitsOf, eventsIn}
+use Rattle.record.proofs.Bits.{events-back}
 use Rattle.pages.specs.Bodies.{bodySize, bodyFields, body, attributesIn, Sized}
+use Rattle.pages.specs.Features.{featureSize, configFields, configPage, configIn, Words}
 use Rattle.pages.proofs.Numbers.{number-below}
 
 -- ---- set-up bodies
@@ -31,8 +38,7 @@ attributesOf l =
     }
 
 sized-fit : (a : Attributes) → Sized a → Fit (bodyFields a)
-sized-fit a s =
-    (s .id, (s .group, (s .«random_read_typical», (s .«optimal_write_size», (s .«total_low», (s .«total_high», (s .«unallocated_low», (s .«unallocated_high», (s .«reads_typical», (s .«writes_typical», (s .«time_maximum», (s .«minimum_high», (s .«minimum_low», tt)))))))))))))
+sized-fit a s = search needs
 
 -- a body's attributes are those that it was made of
 pub body-back : (a : Attributes) → Sized a → attributesIn (body a) 0 ≡ a
@@ -58,3 +64,25 @@ module _ (bytes : List ℕ) (each : (i : ℕ) → getD bytes i 0 < 256) (at : �
         «minimum_high» = number-below bytes each (at + 68) 8 (omega arith);
         «minimum_low» = number-below bytes each (at + 76) 8 (omega arith);
       }
+
+-- ---- the data of feature 13h
+
+-- a configuration by the list of its page's numbers
+abbrev configOf : List ℕ → Config
+configOf l = record { enabled = eventsIn (getD l 0 0); thresholds = record { reads = getD l 1 0; writes = getD l 2 0; time = getD l 3 0 } }
+
+bit-small : (b : Bool) → bit b ≤ 1
+bit-small true = omega arith
+bit-small false = omega arith
+
+-- event bits take two bytes
+pub bits-small : (e : Events) → bitsOf e < 2 ^ 16
+bits-small e =
+    omega (arith, bit-small (e .reads), bit-small (e .writes), bit-small (e .time), bit-small (e .exceeded), bit-small (e .excursion))
+
+-- what Set Features stores, Get Features hands back
+pub config-back : (c : Config) → Words (c .thresholds) → configIn (configPage c) ≡ c
+unfolding configPage
+config-back c w =
+    rw (events-back (c .enabled)) at
+    (ap configOf (read-back featureSize (configFields c) refl (bits-small (c .enabled), (w .reads, (w .writes, (w .time, tt))))))

@@ -6,7 +6,7 @@ use native.Mathlib.Omega.{arith}
 use lib.ListN.{length, getD}
 use lib.Seq.{drop-cons}
 use Rattle.octets.proofs.Turns.{more}
-use Rattle.pages.specs.Bodies.{numberAt}
+use Rattle.pages.specs.Numbers.{numberAt}
 
 module _ (bytes : List ℕ) (each : (i : ℕ) → getD bytes i 0 < 256) where
   pub number-below : (at width : ℕ) → at + width ≤ length bytes → numberAt bytes at width < 256 ^ width

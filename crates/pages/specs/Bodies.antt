@@ -1,12 +1,12 @@
 -- 01, "One set's record": a set's attributes as the 84 bytes that set-up takes.
 use mathlib.Core.List.{List, [], _∷_}
 use Prim.Native.Nat.{ℕ, _+_, _^_, _<_}
-use Rattle.octets.specs.Octets.{numberOf, part}
 use Rattle.octets.specs.Pages.{Field, field, place}
 use Rattle.record.specs.declared.SetId.{SetId}
 use Rattle.record.specs.declared.Group.{Group}
 use Rattle.record.specs.declared.Capacity.{Capacity}
 use Rattle.record.specs.declared.Attributes.{Attributes}
+use Rattle.pages.specs.Numbers.{numberAt}
 
 -- "07h set attributes in the order above, 84"
 abbrev pub bodySize : ℕ
@@ -36,10 +36,6 @@ unfoldable pub body : Attributes → List ℕ
 body a = place bodySize (bodyFields a)
 
 -- ---- a body read
-
--- the number of `width` bytes at a place
-abbrev pub numberAt : List ℕ → ℕ → ℕ → ℕ
-numberAt bytes at width = numberOf (part bytes at width)
 
 abbrev pub capacityIn : List ℕ → ℕ → Capacity
 capacityIn bytes at = record { low = numberAt bytes at 8; high = numberAt bytes (at + 8) 8 }

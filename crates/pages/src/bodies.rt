@@ -1,10 +1,10 @@
 // A set's attributes as the 84 bytes that set-up takes.
 ghost use mathlib.Core.Path.{_≡_};
-ghost use mathlib.Core.Bool.{true};
 ghost use Prim.Native.Nat.{ℕ, _+_, _≤_};
 ghost use lib.ListN.{length};
-ghost use Rattle.octets.specs.Pages.{place, tidy, fieldsOf};
-ghost use Rattle.pages.specs.Bodies.{bodySize, body, numberAt, capacityIn, attributesIn};
+ghost use Rattle.pages.specs.Numbers.{numberAt};
+ghost use Rattle.pages.specs.Bodies.{bodySize, body, capacityIn, attributesIn};
+use crate::filled::filled_84;
 use record::Attributes;
 use record::Capacity;
 use record::Group;
@@ -66,16 +66,6 @@ pub fn attributes_in(bytes: &[u8], at: usize) -> Attributes
     }
 }
 
-// A body with these fields.
-fn filled(rows: &[[u64; 3]]) -> [u8; 84]
-    requires { ⌜ tidy 0 bodySize (fieldsOf (now rows)) ≡ true ⌝ }
-    ensures { λ r. ⌜ r ≡ place bodySize (fieldsOf (now (rows .entry))) ⌝ }
-{
-    let mut p = [0u8; 84];
-    octets::fill(&mut p, rows);
-    p
-}
-
 pub fn body_of(a: Attributes) -> [u8; 84]
     ensures { λ r. ⌜ r ≡ body a ⌝ }
 {
@@ -94,5 +84,5 @@ pub fn body_of(a: Attributes) -> [u8; 84]
         [68, 8, a.minimum_high],
         [76, 8, a.minimum_low],
     ];
-    filled(&rows)
+    filled_84(&rows)
 }

@@ -1,2 +1,4 @@
 // What stands on bytes: set-up bodies, the data of feature 13h, log pages 0Ah and 0Bh, and Identify.
 pub mod bodies;
+pub mod features;
+mod filled;
