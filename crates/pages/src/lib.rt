@@ -2,3 +2,4 @@
 pub mod bodies;
 pub mod features;
 mod filled;
+pub mod latency;
