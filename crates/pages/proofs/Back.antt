@@ -2,19 +2,33 @@
 use mathlib.Core.Path.{_≡_, refl, ap, _∙_}
 use mathlib.Core.Bool.{Bool, true, false}
 use mathlib.Core.List.{List, [], _∷_}
-use Prim.Native.Nat.{ℕ, _+_, _^_, _≤_, _<_}
+use Prim.Native.Nat.{ℕ, _+_, _-_, _^_, _≤_, _<_}
 use native.Mathlib.Omega.{arith}
 use borrow.Author.Needs.{needs}
+use lib.Dec.{eqb}
 use lib.ListN.{length, getD}
 use lib.Seq.{sets}
-use Rattle.octets.specs.Pages.{Fit}
+use borrow.Author.Tests.{leb-true}
+use Rattle.octets.specs.Choice.{if_then_else_}
+use Rattle.octets.specs.Pages.{Fit, readings, values}
+use Rattle.octets.proofs.Tests.{and-left, and-right}
 use Rattle.octets.proofs.Pages.{read-back}
 use Rattle.record.specs.declared.Attributes.{Attributes}
 use Rattle.record.specs.declared.Events.{Events}
 use Rattle.record.specs.declared.Config.{Config}
-use Rattle.record.specs.Events.{bit, bitsOf, eventsIn}
+use Rattle.record.specs.declared.Window.{Window}
+use Rattle.record.specs.declared.Window.the-variants.{Off, D, N}
+use Rattle.record.specs.declared.Quantity.{Quantity}
+use Rattle.record.specs.declared.Quantity.the-variants.{Reads, Writes, Time}
+use Rattle.record.specs.declared.State.{State}
+use Rattle.record.specs.declared.Record.{Record}
+use Rattle.record.specs.Record.{limit, spent, need}
+use Rattle.record.specs.Window.{byWindow, windowNo}
+use Rattle.record.specs.Legal.{typicalMaximum, dayMs, legalAttributes}
+use Rattle.record.specs.Events.{bit, bitsOf, eventsIn, estimate}
 use Rattle.record.proofs.Bits.{events-back}
 use Rattle.pages.specs.Bodies.{bodySize, bodyFields, body, attributesIn, Sized}
+use Rattle.pages.specs.Latency.{latencySize, latencyFields, latencyPage}
 use Rattle.pages.specs.Features.{featureSize, configFields, configPage, configIn, Words}
 use Rattle.pages.proofs.Numbers.{number-below}
 
@@ -86,3 +100,53 @@ unfolding configPage
 config-back c w =
     rw (events-back (c .enabled)) at
     (ap configOf (read-back featureSize (configFields c) refl (bits-small (c .enabled), (w .reads, (w .writes, (w .time, tt))))))
+
+-- ---- log page 0Ah
+
+window-small : (w : Window) → windowNo w < 2 ^ 8
+window-small Off = omega arith
+window-small D = omega arith
+window-small N = omega arith
+
+left-below : (w : Window) (most n : ℕ) (b : Bool) → byWindow w 0 (most - n) (if b then most else 0) ≤ most
+left-below Off most n b = omega arith
+left-below D most n b = omega arith
+left-below N most n true = omega arith
+left-below N most n false = omega arith
+
+-- an estimate is at most the quantity's limit
+pub estimate-below : (q : Quantity) (a : Attributes) (s : State) → estimate q a s ≤ limit q a
+estimate-below q a s = left-below (s .window) (limit q a) (spent q s) (eqb (s .«n_time») (need a))
+
+-- what legality says of the statics on the page
+record Limits (a : Attributes) : Type 0 where
+  reads : a .«reads_typical» ≤ typicalMaximum
+  writes : a .«writes_typical» ≤ typicalMaximum
+  time : a .«time_maximum» ≤ dayMs
+  high : a .«minimum_high» ≤ dayMs
+  low : a .«minimum_low» ≤ dayMs
+
+limits : (a : Attributes) → legalAttributes a ≡ true → Limits a
+limits a h =
+    record {
+      reads = search (and-left, and-right, leb-true) depth 12;
+      writes = search (and-left, and-right, leb-true) depth 12;
+      time = search (and-left, and-right, leb-true) depth 12;
+      high = search (and-left, and-right, leb-true) depth 12;
+      low = search (and-left, and-right, leb-true) depth 12;
+    }
+
+-- what page 0Ah shows of a legal record fits its places
+pub latency-fit : (r : Record) → legalAttributes (r .attributes) ≡ true → Fit (latencyFields r)
+latency-fit r h =
+    let a = r .attributes in
+    let l = limits a h in
+    let reads : estimate Reads a (r .state) < 2 ^ 64 = omega (arith, estimate-below Reads a (r .state)) in
+    let writes : estimate Writes a (r .state) < 2 ^ 64 = omega (arith, estimate-below Writes a (r .state)) in
+    let time : estimate Time a (r .state) < 2 ^ 64 = omega (arith, estimate-below Time a (r .state)) in
+    (window-small (r .state .window), (bits-small (r .notes .events), (omega arith, (omega arith, (omega arith, (omega arith, (omega arith, (reads, (writes, (time, tt))))))))))
+
+-- page 0Ah read at its fields gives back what the record says
+pub latency-back : (r : Record) → legalAttributes (r .attributes) ≡ true → readings (latencyPage r) (latencyFields r) ≡ values (latencyFields r)
+unfolding latencyPage
+latency-back r h = read-back latencySize (latencyFields r) refl (latency-fit r h)
