@@ -2,3 +2,4 @@ pub mod Numbers
 pub mod Bodies
 pub mod Features
 pub mod Latency
+pub mod Aggregate

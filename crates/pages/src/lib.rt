@@ -1,4 +1,5 @@
 // What stands on bytes: set-up bodies, the data of feature 13h, log pages 0Ah and 0Bh, and Identify.
+pub mod aggregate;
 pub mod bodies;
 pub mod features;
 mod filled;
