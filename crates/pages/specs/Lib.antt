@@ -3,3 +3,4 @@ pub mod Bodies
 pub mod Features
 pub mod Latency
 pub mod Aggregate
+pub mod Identify

@@ -3,4 +3,5 @@ pub mod aggregate;
 pub mod bodies;
 pub mod features;
 mod filled;
+pub mod identify;
 pub mod latency;
