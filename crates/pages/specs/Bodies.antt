@@ -72,3 +72,7 @@ pub record Sized (a : Attributes) : Type 0 where
   pub «time_maximum» : a .«time_maximum» < 2 ^ 64
   pub «minimum_high» : a .«minimum_high» < 2 ^ 64
   pub «minimum_low» : a .«minimum_low» < 2 ^ 64
+
+abbrev pub AllSized : List Attributes → Type 0
+AllSized [] = Unit
+AllSized (a ∷ others) = Sized a × AllSized others

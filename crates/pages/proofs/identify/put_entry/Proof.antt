@@ -1,6 +1,5 @@
-use native.Mathlib.Omega.{arith}
 use borrow.Author.Needs.{needs}
-use Rattle.pages.proofs.Entries.{entry-tidy}
+use Rattle.pages.proofs.Entries.{one-tidy}
 use Rattle.pages.proofs.identify.put_entry.Statement.{statement}
 use Rattle.pages.proofs.identify.put_entry.Tie as tie
 
@@ -20,6 +19,6 @@ put-entry-spec =
     (λ c. search needs)
     (λ c. search needs)
     (λ c. search needs)
-    (λ c κs. let s = c .before .before .before .before .before .before .before in entry-tidy (s .args .to) 0 _ (s .args .a) (omega arith) (s .pre))
+    (λ c κs. let s = c .before .before .before .before .before .before .before in one-tidy (s .args .to) _ (s .args .a) (s .pre))
     (λ c. search needs)
     (λ c. search needs))
