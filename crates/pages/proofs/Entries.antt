@@ -11,12 +11,14 @@ use lib.Dec.{leb}
 use lib.ListN.{length, replicate, length-replicate, length-append}
 use lib.Seq.{sets, length-sets}
 use Rattle.octets.specs.Octets.{bytesOf}
-use Rattle.octets.specs.Pages.{Field, puts, place, tidy}
+use borrow.Author.Needs.{needs}
+use Rattle.octets.specs.Pages.{Field, puts, place, tidy, Fit, readings, values}
 use Rattle.octets.proofs.Tests.{both}
 use Rattle.octets.proofs.Laws.{length-bytes}
 use Rattle.octets.proofs.Runs.{sets-comm}
-use Rattle.octets.proofs.Pages.{placed}
+use Rattle.octets.proofs.Pages.{placed, read-back}
 use Rattle.record.specs.declared.Attributes.{Attributes}
+use Rattle.pages.specs.Bodies.{Sized, AllSized}
 use Rattle.pages.specs.Identify.{identifySize, entrySize, firstEntry, identifyEntries, shownIf, shown, entryFields, entriesAt, identifyFields, identifyPage}
 
 -- the fields of an entry stand in order, and what follows them after its last
@@ -115,6 +117,10 @@ module _ (page₀ : List ℕ) (from : ℕ) (all : List Attributes) where
           same = rw (et, ep) (sym goes ∙ s .same);
         }
 
+  -- what putting the count asks for
+  pub show-counted : (page : List ℕ) (to : ℕ) → Showing page₀ from all page to [] → (firstEntry ≤ to) × (1 ≤ length page)
+  show-counted page to s = (omega arith, omega arith)
+
   pub show-end : (page page′ : List ℕ) (to : ℕ) → Showing page₀ from all page to [] → page₀ ≡ replicate identifySize 0
       → page′ ≡ sets page 0 (bytesOf 1 ((to - firstEntry) / entrySize)) → page′ ≡ identifyPage from all
   unfolding identifyPage
@@ -128,3 +134,34 @@ module _ (page₀ : List ℕ) (from : ℕ) (all : List Attributes) where
       (entries-tidy sets′ firstEntry 1 (firstEntry + entrySize * length sets′) (omega arith) (omega arith)) (omega arith)
       ∙ ap (λ (l : List ℕ). puts l (identifyFields sets′)) e
       ∙ placed identifySize (identifyFields sets′)
+
+-- ---- the page read back
+
+shown-few : (from : ℕ) (xs : List Attributes) → length (shown from xs) ≤ length xs
+shown-few from [] = omega arith
+shown-few from (a ∷ xs) =
+    omega (arith, shown-few from xs, one-at-most (leb from (a .id .0)) a, ap length (shown-first from a xs) ∙ length-append (shown from (a ∷ [])) (shown from xs))
+
+sized-if : (b : Bool) (a : Attributes) (others : List Attributes) → Sized a → AllSized others → AllSized (shownIf b a others)
+sized-if true a others s o = (s, o)
+sized-if false a others s o = o
+
+shown-sized : (from : ℕ) (xs : List Attributes) → AllSized xs → AllSized (shown from xs)
+shown-sized from [] s = tt
+shown-sized from (a ∷ xs) s = sized-if (leb from (a .id .0)) a (shown from xs) (s .0) (shown-sized from xs (s .1))
+
+entries-fit : (xs : List Attributes) (to : ℕ) → AllSized xs → Fit (entriesAt to xs)
+entries-fit [] to s = tt
+entries-fit (a ∷ xs) to s =
+    let f = entries-fit xs (to + entrySize) (s .1) in
+    let z = s .0 in
+    search needs
+
+-- the page read at its fields gives back the count and the entries
+pub identify-back : (from : ℕ) (all : List Attributes) → length all ≤ identifyEntries → AllSized all
+    → readings (identifyPage from all) (identifyFields (shown from all)) ≡ values (identifyFields (shown from all))
+unfolding identifyPage
+identify-back from all few s =
+    let n = shown-few from all in
+    read-back identifySize (identifyFields (shown from all)) (entries-tidy (shown from all) firstEntry 1 identifySize (omega arith) (omega arith))
+    (omega arith, entries-fit (shown from all) firstEntry (shown-sized from all s))
