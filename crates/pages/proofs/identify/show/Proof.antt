@@ -15,6 +15,6 @@ show-spec =
     let p = c .before .before in
     let i = p .before .before in
     let s = i .before .before .before .args in
-    let t = is-shown (s .page .now) (s .to) (s .from) (s .a) (i .if1 .taken) in
+    let t = is-shown (s .page .now) (s .to) (s .from) (s .a) (search needs) in
     (t .0, p .put-entry .ensures ∙ t .1))
-    (λ c. let s = c .before .before .before .args in not-shown (s .page .now) (s .to) (s .from) (s .a) (c .if1 .left)))
+    (λ c. let s = c .before .before .before .args in not-shown (s .page .now) (s .to) (s .from) (s .a) (search needs)))
