@@ -1,8 +1,9 @@
 -- What is laid out is read back.
-use mathlib.Core.Path.{_≡_, refl, ap, _∙_}
+use mathlib.Core.Path.{_≡_, refl, sym, ap, _∙_}
 use mathlib.Core.Bool.{Bool, true, false}
 use mathlib.Core.List.{List, [], _∷_}
 use Prim.Native.Nat.{ℕ, _+_, _-_, _^_, _≤_, _<_}
+use native.Mathlib.Nat.{add-zero}
 use native.Mathlib.Omega.{arith}
 use borrow.Author.Needs.{needs}
 use lib.Dec.{eqb}
@@ -10,8 +11,10 @@ use lib.ListN.{length, getD}
 use lib.Seq.{sets}
 use borrow.Author.Tests.{leb-true}
 use Rattle.octets.specs.Choice.{if_then_else_}
+use Rattle.octets.specs.Octets.{part}
 use Rattle.octets.specs.Pages.{Fit, readings, values}
 use Rattle.octets.proofs.Tests.{and-left, and-right}
+use Rattle.octets.proofs.Runs.{Apart, part-same, part-other}
 use Rattle.octets.proofs.Pages.{read-back}
 use Rattle.record.specs.declared.Attributes.{Attributes}
 use Rattle.record.specs.declared.Events.{Events}
@@ -27,10 +30,11 @@ use Rattle.record.specs.Window.{byWindow, windowNo}
 use Rattle.record.specs.Legal.{typicalMaximum, dayMs, legalAttributes}
 use Rattle.record.specs.Events.{bit, bitsOf, eventsIn, estimate}
 use Rattle.record.proofs.Bits.{events-back}
+use Rattle.pages.specs.Numbers.{numberAt}
 use Rattle.pages.specs.Bodies.{bodySize, bodyFields, body, attributesIn, Sized}
 use Rattle.pages.specs.Latency.{latencySize, latencyFields, latencyPage}
 use Rattle.pages.specs.Features.{featureSize, configFields, configPage, configIn, Words}
-use Rattle.pages.proofs.Numbers.{number-below}
+use Rattle.pages.proofs.Numbers.{number-below, number-within, length-place}
 
 -- ---- set-up bodies
 
@@ -58,6 +62,35 @@ sized-fit a s = search needs
 pub body-back : (a : Attributes) → Sized a → attributesIn (body a) 0 ≡ a
 unfolding body
 body-back a s = ap attributesOf (read-back bodySize (bodyFields a) refl (sized-fit a s))
+
+-- attributes are read from a body's bytes alone
+module _ (l : List ℕ) (at : ℕ) where
+  there : (k w : ℕ) → k + w ≤ bodySize → numberAt (part l at bodySize) k w ≡ numberAt l (at + k) w
+  there k w h = number-within l at bodySize k w h
+
+  pub body-alone : attributesIn (part l at bodySize) 0 ≡ attributesIn l at
+  body-alone =
+      let total : at + 12 + 8 ≡ at + 20 = omega arith in
+      let unallocated : at + 28 + 8 ≡ at + 36 = omega arith in
+      rw (total, unallocated, there 0 2 (omega arith), add-zero, there 2 2 (omega arith), there 4 4 (omega arith), there 8 4 (omega arith), there 12 8 (omega arith), there 20 8 (omega arith), there 28 8 (omega arith), there 36 8 (omega arith), there 44 8 (omega arith), there 52 8 (omega arith), there 60 8 (omega arith), there 68 8 (omega arith), there 76 8 (omega arith))
+
+pub body-length : (a : Attributes) → length (body a) ≡ bodySize
+unfolding body
+body-length a = length-place bodySize (bodyFields a)
+
+-- a body stored among bytes is read back there, and bodies elsewhere are as they were
+module _ (l : List ℕ) (at : ℕ) (a : Attributes) where
+  pub body-stored : at + bodySize ≤ length l → Sized a → attributesIn (sets l at (body a)) at ≡ a
+  body-stored h s =
+      sym (body-alone (sets l at (body a)) at)
+      ∙ ap (λ (b : List ℕ). attributesIn b 0) (part-same (body a) l at bodySize (body-length a) h)
+      ∙ body-back a s
+
+  pub body-elsewhere : (at′ : ℕ) → Apart at bodySize at′ bodySize → attributesIn (sets l at (body a)) at′ ≡ attributesIn l at′
+  body-elsewhere at′ o =
+      sym (body-alone (sets l at (body a)) at′)
+      ∙ ap (λ (b : List ℕ). attributesIn b 0) (part-other (body a) l at at′ bodySize (rw (body-length a) o))
+      ∙ body-alone l at′
 
 -- what is read from bytes fits
 module _ (bytes : List ℕ) (each : (i : ℕ) → getD bytes i 0 < 256) (at : ℕ) (room : at + bodySize ≤ length bytes) where

@@ -17,6 +17,7 @@ use Rattle.octets.proofs.Tests.{both}
 use Rattle.octets.proofs.Laws.{length-bytes}
 use Rattle.octets.proofs.Runs.{sets-comm}
 use Rattle.octets.proofs.Pages.{placed, read-back}
+use Rattle.pages.proofs.Numbers.{length-puts}
 use Rattle.record.specs.declared.Attributes.{Attributes}
 use Rattle.pages.specs.Bodies.{Sized, AllSized}
 use Rattle.pages.specs.Identify.{identifySize, entrySize, firstEntry, identifyEntries, shownIf, shown, entryFields, entriesAt, identifyFields, identifyPage}
@@ -60,11 +61,6 @@ entries-more (a ∷ xs) ys to =
 puts-more : (fs gs : List Field) (page : List ℕ) → puts page (fs ++ gs) ≡ puts (puts page fs) gs
 puts-more [] gs page = refl
 puts-more (f ∷ fs) gs page = puts-more fs gs (sets page (f .at) (bytesOf (f .width) (f .value)))
-
-length-puts : (fs : List Field) (page : List ℕ) → length (puts page fs) ≡ length page
-length-puts [] page = refl
-length-puts (f ∷ fs) page =
-    length-puts fs (sets page (f .at) (bytesOf (f .width) (f .value))) ∙ length-sets page (f .at) (bytesOf (f .width) (f .value))
 
 -- the entries of sets stand in order
 entries-tidy : (xs : List Attributes) (to from size : ℕ) → from ≤ to → to + entrySize * length xs ≤ size → tidy from size (entriesAt to xs) ≡ true
