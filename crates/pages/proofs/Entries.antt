@@ -113,23 +113,25 @@ module _ (page₀ : List ℕ) (from : ℕ) (all : List Attributes) where
           same = rw (et, ep) (sym goes ∙ s .same);
         }
 
-  -- what putting the count asks for
-  pub show-counted : (page : List ℕ) (to : ℕ) → Showing page₀ from all page to [] → (firstEntry ≤ to) × (1 ≤ length page)
-  show-counted page to s = (omega arith, omega arith)
+  -- none is left: all are shown
+  pub show-end : (page : List ℕ) (to : ℕ) → Showing page₀ from all page to []
+      → (to ≡ firstEntry + entrySize * length (shown from all)) × (page ≡ puts page₀ (entriesAt firstEntry (shown from all)))
+  show-end page to s = (omega arith, s .same)
 
-  pub show-end : (page page′ : List ℕ) (to : ℕ) → Showing page₀ from all page to [] → page₀ ≡ replicate identifySize 0
-      → page′ ≡ sets page 0 (bytesOf 1 ((to - firstEntry) / entrySize)) → page′ ≡ identifyPage from all
-  unfolding identifyPage
-  show-end page page′ to s e ep =
-      let sets′ : List Attributes = shown from all in
-      let n : (to - firstEntry) / entrySize ≡ length sets′ = omega arith in
-      ep
-      ∙ ap (λ (k : ℕ). sets page 0 (bytesOf 1 k)) n
-      ∙ ap (λ (l : List ℕ). sets l 0 (bytesOf 1 (length sets′))) (s .same)
-      ∙ put-later (entriesAt firstEntry sets′) page₀ (bytesOf 1 (length sets′)) 1 (firstEntry + entrySize * length sets′)
-      (entries-tidy sets′ firstEntry 1 (firstEntry + entrySize * length sets′) (omega arith) (omega arith)) (omega arith)
-      ∙ ap (λ (l : List ℕ). puts l (identifyFields sets′)) e
-      ∙ placed identifySize (identifyFields sets′)
+-- the count, put when all are shown, completes the page
+pub show-whole : (from : ℕ) (all : List Attributes) (page page′ : List ℕ) (to : ℕ) → to ≡ firstEntry + entrySize * length (shown from all)
+    → page ≡ puts (replicate identifySize 0) (entriesAt firstEntry (shown from all))
+    → page′ ≡ sets page 0 (bytesOf 1 ((to - firstEntry) / entrySize)) → page′ ≡ identifyPage from all
+unfolding identifyPage
+show-whole from all page page′ to et ep ec =
+    let listed : List Attributes = shown from all in
+    let n : (to - firstEntry) / entrySize ≡ length listed = omega arith in
+    ec
+    ∙ ap (λ (k : ℕ). sets page 0 (bytesOf 1 k)) n
+    ∙ ap (λ (l : List ℕ). sets l 0 (bytesOf 1 (length listed))) ep
+    ∙ put-later (entriesAt firstEntry listed) (replicate identifySize 0) (bytesOf 1 (length listed)) 1 (firstEntry + entrySize * length listed)
+    (entries-tidy listed firstEntry 1 (firstEntry + entrySize * length listed) (omega arith) (omega arith)) (omega arith)
+    ∙ placed identifySize (identifyFields listed)
 
 -- ---- the page read back
 
