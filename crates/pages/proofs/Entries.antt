@@ -20,7 +20,7 @@ use Rattle.octets.proofs.Pages.{placed, read-back}
 use Rattle.pages.proofs.Numbers.{length-puts}
 use Rattle.record.specs.declared.Attributes.{Attributes}
 use Rattle.pages.specs.Bodies.{Sized, AllSized}
-use Rattle.pages.specs.Identify.{identifySize, entrySize, firstEntry, identifyEntries, shownIf, shown, entryFields, entriesAt, identifyFields, identifyPage}
+use Rattle.pages.specs.Identify.{identifySize, entrySize, firstEntry, identifyEntries, shownIf, shown, entryFields, entriesAt, identifyFields, identifyPage, Shows}
 
 -- the fields of an entry stand in order, and what follows them after its last
 entry-tidy : (to from size : ℕ) (a : Attributes) (fs : List Field) → from ≤ to → tidy (to + 40 + 8) size fs ≡ true → tidy from size (entryFields to a ++ fs) ≡ true
@@ -33,11 +33,11 @@ one-tidy to size a h = entry-tidy to 0 size a [] (omega arith) (le-leb (to + 40 
 -- ---- one set: what its test says
 
 module _ (page : List ℕ) (to from : ℕ) (a : Attributes) where
-  pub is-shown : from ≤ a .id .0 → (to + 128 ≡ to + entrySize * length (shown from (a ∷ []))) × (puts page (entryFields to a) ≡ puts page (entriesAt to (shown from (a ∷ []))))
-  is-shown h = rw (le-leb from (a .id .0) h) (refl, refl)
+  pub is-shown : (after : List ℕ) → from ≤ a .id .0 → after ≡ puts page (entryFields to a) → Shows from a page to after (to + entrySize)
+  is-shown after h e = let k = le-leb from (a .id .0) h in record { entry = rw k e; place = rw k }
 
-  pub not-shown : a .id .0 < from → (to ≡ to + entrySize * length (shown from (a ∷ []))) × (page ≡ puts page (entriesAt to (shown from (a ∷ []))))
-  not-shown h = rw (lt-leb from (a .id .0) h) (omega arith, refl)
+  pub not-shown : a .id .0 < from → Shows from a page to page to
+  not-shown h = let k = lt-leb from (a .id .0) h in record { entry = rw k; place = rw k (omega arith) }
 
 -- ---- the first set, and the rest
 
@@ -94,9 +94,8 @@ module _ (page₀ : List ℕ) (from : ℕ) (all : List Attributes) where
     pub show-room : to + entrySize ≤ length page
     show-room = omega arith
 
-    pub show-turn : (page′ : List ℕ) (to′ : ℕ) → to′ ≡ to + entrySize * length (shown from (a ∷ []))
-        → page′ ≡ puts page (entriesAt to (shown from (a ∷ []))) → Showing page₀ from all page′ to′ left
-    show-turn page′ to′ et ep =
+    pub show-turn : (after : List ℕ) (next : ℕ) → Shows from a page to after next → Showing page₀ from all after next left
+    show-turn after next d =
         let one : List Attributes = shown from (a ∷ []) in
         let rest : List Attributes = shown from left in
         let split : shown from (a ∷ left) ≡ one ++ rest = shown-first from a left in
@@ -107,10 +106,10 @@ module _ (page₀ : List ℕ) (from : ℕ) (all : List Attributes) where
         ∙ ap (puts page) (entries-more one rest to)
         ∙ puts-more (entriesAt to one) (entriesAt (to + entrySize * length one) rest) page
         in record {
-          long = ap length ep ∙ length-puts (entriesAt to one) page ∙ s .long;
+          long = ap length (d .entry) ∙ length-puts (entriesAt to one) page ∙ s .long;
           room = omega arith;
           count = omega arith;
-          same = rw (et, ep) (sym goes ∙ s .same);
+          same = rw (d .place, d .entry) (sym goes ∙ s .same);
         }
 
   -- none is left: all are shown

@@ -1,11 +1,12 @@
 -- 01, "Commands": Identify 04h, the NVM Set List.
+use mathlib.Core.Path.{_≡_}
 use mathlib.Core.Bool.{Bool}
 use mathlib.Core.List.{List, [], _∷_, _++_}
-use Prim.Native.Nat.{ℕ, _+_}
+use Prim.Native.Nat.{ℕ, _+_, _*_}
 use lib.Dec.{leb}
 use lib.ListN.{length}
 use Rattle.octets.specs.Choice.{if_then_else_}
-use Rattle.octets.specs.Pages.{Field, field, place}
+use Rattle.octets.specs.Pages.{Field, field, puts, place}
 use Rattle.record.specs.declared.Attributes.{Attributes}
 
 -- "Identify 04h, 4,096 bytes"
@@ -63,3 +64,10 @@ identifyFields sets = field 0 1 (length sets) ∷ entriesAt firstEntry sets
 -- "rest zero"
 unfoldable pub identifyPage : ℕ → List Attributes → List ℕ
 identifyPage from sets = place identifySize (identifyFields (shown from sets))
+
+-- ---- one set at a time
+
+-- a set, if it is to be shown, put on a page at a place: the page after it, and the next place
+pub record Shows (from : ℕ) (a : Attributes) (page : List ℕ) (to : ℕ) (after : List ℕ) (next : ℕ) : Type 0 where
+  pub entry : after ≡ puts page (entriesAt to (shown from (a ∷ [])))
+  pub place : next ≡ to + entrySize * length (shown from (a ∷ []))

@@ -1,12 +1,11 @@
 // Identify 04h, the NVM Set List, one set at a time: a caller shows its sets in order on a page of zeros, then puts the count.
 ghost use mathlib.Core.Path.{_≡_};
-ghost use mathlib.Core.List.{List, [], _∷_};
-ghost use Prim.Native.Nat.{ℕ, _+_, _*_, _-_, _/_, _<_, _≤_};
+ghost use Prim.Native.Nat.{ℕ, _+_, _-_, _/_, _≤_};
 ghost use lib.ListN.{length};
 ghost use lib.Seq.{sets};
 ghost use Rattle.octets.specs.Octets.{bytesOf};
 ghost use Rattle.octets.specs.Pages.{puts};
-ghost use Rattle.pages.specs.Identify.{entrySize, firstEntry, shown, entryFields, entriesAt};
+ghost use Rattle.pages.specs.Identify.{entrySize, firstEntry, entryFields, Shows};
 use record::Attributes;
 
 // Places in the page, as numbers of a table of fields.
@@ -31,8 +30,7 @@ fn put_entry(page: &mut [u8], to: usize, a: Attributes)
 // The entry of one set, if it is to be shown; the answer is the next place.
 pub fn show(page: &mut [u8], to: usize, a: Attributes, from: u16) -> usize
     requires { ⌜ to + entrySize ≤ length (now page) ⌝ }
-    ensures { λ r. ⌜ r ≡ to + entrySize * length (shown from (a ∷ [])) ⌝ }
-    ensures { λ _. ⌜ now (page .exit) ≡ puts (now (page .entry)) (entriesAt to (shown from (a ∷ []))) ⌝ }
+    ensures { λ r. ⌜ Shows from a (now (page .entry)) to (now (page .exit)) r ⌝ }
 {
     if from <= a.id.0 {
         put_entry(page, to, a);

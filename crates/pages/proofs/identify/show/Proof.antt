@@ -1,4 +1,3 @@
-use mathlib.Core.Path.{_∙_}
 use borrow.Author.Needs.{needs}
 use Rattle.pages.proofs.Entries.{is-shown, not-shown}
 use Rattle.pages.proofs.identify.show.Statement.{statement}
@@ -13,8 +12,6 @@ show-spec =
     (λ c. search needs)
     (λ c.
     let p = c .before .before in
-    let i = p .before .before in
-    let s = i .before .before .before .args in
-    let t = is-shown (s .page .now) (s .to) (s .from) (s .a) (search needs) in
-    (t .0, p .put-entry .ensures ∙ t .1))
+    let s = p .before .before .before .before .before .args in
+    is-shown (s .page .now) (s .to) (s .from) (s .a) (p .put-entry .last .0) (search needs) (p .put-entry .ensures))
     (λ c. let s = c .before .before .before .args in not-shown (s .page .now) (s .to) (s .from) (s .a) (search needs)))
