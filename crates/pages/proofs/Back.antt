@@ -1,7 +1,7 @@
 -- What is laid out is read back.
 use mathlib.Core.Path.{_≡_, refl, sym, ap, _∙_}
 use mathlib.Core.Bool.{Bool, true, false}
-use mathlib.Core.List.{List, [], _∷_}
+use mathlib.Core.List.{List}
 use Prim.Native.Nat.{ℕ, _+_, _-_, _^_, _≤_, _<_}
 use native.Mathlib.Nat.{add-zero}
 use native.Mathlib.Omega.{arith}
@@ -133,6 +133,15 @@ unfolding configPage
 config-back c w =
     rw (events-back (c .enabled)) at
     (ap configOf (read-back featureSize (configFields c) refl (bits-small (c .enabled), (w .reads, (w .writes, (w .time, tt))))))
+
+-- what is read from bytes fits
+pub read-words : (bytes : List ℕ) → ((i : ℕ) → getD bytes i 0 < 256) → featureSize ≤ length bytes → Words (configIn bytes .thresholds)
+read-words bytes each room =
+    record {
+      reads = number-below bytes each 32 8 (omega arith);
+      writes = number-below bytes each 40 8 (omega arith);
+      time = number-below bytes each 48 8 (omega arith);
+    }
 
 -- ---- log page 0Ah
 

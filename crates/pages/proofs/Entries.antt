@@ -2,19 +2,18 @@
 use mathlib.Core.Path.{_≡_, refl, sym, ap, _∙_}
 use mathlib.Core.Bool.{Bool, true, false}
 use mathlib.Core.List.{List, [], _∷_, _++_}
-use mathlib.Core.Logic.{inl, inr}
-use Prim.Native.Nat.{ℕ, zero, suc, _+_, _*_, _-_, _/_, _≤_, _<_}
+use mathlib.Core.Logic.{inr}
+use Prim.Native.Nat.{ℕ, suc, _+_, _*_, _-_, _/_, _≤_, _<_}
 use native.Mathlib.Omega.{arith}
 use native.Mathlib.Nat.{add-zero}
 use borrow.Author.Tests.{leb-true, le-leb, lt-leb}
 use lib.Dec.{leb}
-use lib.ListN.{length, replicate, length-replicate, length-append}
-use lib.Seq.{sets, length-sets}
+use lib.ListN.{length, replicate, length-append}
+use lib.Seq.{sets}
 use Rattle.octets.specs.Octets.{bytesOf}
 use borrow.Author.Needs.{needs}
-use Rattle.octets.specs.Pages.{Field, puts, place, tidy, Fit, readings, values}
+use Rattle.octets.specs.Pages.{Field, puts, tidy, Fit, readings, values}
 use Rattle.octets.proofs.Tests.{both}
-use Rattle.octets.proofs.Laws.{length-bytes}
 use Rattle.octets.proofs.Runs.{sets-comm}
 use Rattle.octets.proofs.Pages.{placed, read-back}
 use Rattle.pages.proofs.Numbers.{length-puts}

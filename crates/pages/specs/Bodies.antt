@@ -2,8 +2,6 @@
 use mathlib.Core.List.{List, [], _∷_}
 use Prim.Native.Nat.{ℕ, _+_, _^_, _<_}
 use Rattle.octets.specs.Pages.{Field, field, place}
-use Rattle.record.specs.declared.SetId.{SetId}
-use Rattle.record.specs.declared.Group.{Group}
 use Rattle.record.specs.declared.Capacity.{Capacity}
 use Rattle.record.specs.declared.Attributes.{Attributes}
 use Rattle.pages.specs.Numbers.{numberAt}

@@ -1,6 +1,6 @@
 // Log page 0Bh, the aggregate list, from the word of listed marks: the count is its ones, the next entry its lowest one.
 ghost use mathlib.Core.Path.{_≡_};
-ghost use Prim.Native.Nat.{ℕ, _+_, _*_, _-_, _^_, _<_, _≤_};
+ghost use Prim.Native.Nat.{_+_, _*_, _-_, _^_, _<_, _≤_};
 ghost use lib.Bits.{bitAnd};
 ghost use lib.Count.{ones, trailingZeros};
 ghost use lib.ListN.{length, getD};
@@ -9,6 +9,7 @@ ghost use Rattle.octets.specs.Octets.{bytesOf};
 ghost use Rattle.octets.specs.Pages.{puts};
 ghost use Rattle.pages.specs.Aggregate.{mostSets, listedBy, entriesFrom, aggregatePage};
 
+// Casts of a parameter ask for no proof, those of a result do.
 fn wide(n: u32) -> u64
     ensures { λ r. ⌜ r ≡ n ⌝ }
 {

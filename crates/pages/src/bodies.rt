@@ -1,6 +1,6 @@
 // A set's attributes as the 84 bytes that set-up takes.
 ghost use mathlib.Core.Path.{_≡_};
-ghost use Prim.Native.Nat.{ℕ, _+_, _≤_};
+ghost use Prim.Native.Nat.{_+_, _≤_};
 ghost use lib.ListN.{length};
 ghost use Rattle.pages.specs.Numbers.{numberAt};
 ghost use Rattle.pages.specs.Bodies.{bodySize, body, capacityIn, attributesIn};

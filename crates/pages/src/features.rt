@@ -1,6 +1,6 @@
 // The data of feature 13h: what Set Features brings and Get Features hands back.
 ghost use mathlib.Core.Path.{_≡_};
-ghost use Prim.Native.Nat.{ℕ, _≤_};
+ghost use Prim.Native.Nat.{_≤_};
 ghost use lib.ListN.{length};
 ghost use Rattle.pages.specs.Features.{featureSize, configPage, configIn};
 use crate::filled::filled_512;

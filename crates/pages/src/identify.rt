@@ -1,6 +1,6 @@
 // Identify 04h, the NVM Set List, one set at a time: a caller shows its sets in order on a page of zeros, then puts the count.
 ghost use mathlib.Core.Path.{_≡_};
-ghost use Prim.Native.Nat.{ℕ, _+_, _-_, _/_, _≤_};
+ghost use Prim.Native.Nat.{_+_, _-_, _/_, _≤_};
 ghost use lib.ListN.{length};
 ghost use lib.Seq.{sets};
 ghost use Rattle.octets.specs.Octets.{bytesOf};
@@ -8,7 +8,11 @@ ghost use Rattle.octets.specs.Pages.{puts};
 ghost use Rattle.pages.specs.Identify.{entrySize, firstEntry, entryFields, Shows};
 use record::Attributes;
 
-// Places in the page, as numbers of a table of fields.
+const ENTRY_SIZE: usize = 128;
+
+const FIRST_ENTRY: usize = 128;
+
+// The entry that starts at `to`, as a table of fields. Its reserved bytes are the zeros that the page came with.
 fn put_entry(page: &mut [u8], to: usize, a: Attributes)
     requires { ⌜ to + entrySize ≤ length (now page) ⌝ }
     ensures { λ _. ⌜ now (page .exit) ≡ puts (now (page .entry)) (entryFields to a) ⌝ }
@@ -34,7 +38,7 @@ pub fn show(page: &mut [u8], to: usize, a: Attributes, from: u16) -> usize
 {
     if from <= a.id.0 {
         put_entry(page, to, a);
-        to + 128
+        to + ENTRY_SIZE
     } else {
         to
     }
@@ -51,5 +55,5 @@ pub fn put_count(page: &mut [u8], to: usize)
     requires { ⌜ (firstEntry ≤ to) × (1 ≤ length (now page)) ⌝ }
     ensures { λ _. ⌜ now (page .exit) ≡ sets (now (page .entry)) 0 (bytesOf 1 ((to - firstEntry) / entrySize)) ⌝ }
 {
-    octets::put(page, 0, 1, wide((to - 128) / 128));
+    octets::put(page, 0, 1, wide((to - FIRST_ENTRY) / ENTRY_SIZE));
 }

@@ -1,11 +1,9 @@
 // Log page 0Ah, Predictable Latency Per NVM Set. The events stand at bytes 3:2 (document 003 shows them at byte 1).
 ghost use mathlib.Core.Path.{_≡_};
-ghost use Rattle.record.specs.Window.{windowNo};
 ghost use Rattle.pages.specs.Latency.{latencyPage};
 use crate::filled::filled_512;
 use record::Quantity;
 use record::Record;
-use record::Window;
 use record::notices::bits_of;
 use record::notices::estimate_of;
 use record::windows::window_no;
