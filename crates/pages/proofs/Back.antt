@@ -1,0 +1,194 @@
+-- What is laid out is read back.
+use mathlib.Core.Path.{_≡_, refl, sym, ap, _∙_}
+use mathlib.Core.Bool.{Bool, true, false}
+use mathlib.Core.List.{List}
+use Prim.Native.Nat.{ℕ, _+_, _-_, _^_, _≤_, _<_}
+use native.Mathlib.Nat.{add-zero}
+use native.Mathlib.Omega.{arith}
+use borrow.Author.Needs.{needs}
+use lib.Dec.{eqb}
+use lib.ListN.{length, getD}
+use lib.Seq.{sets}
+use borrow.Author.Tests.{leb-true}
+use Rattle.octets.specs.Choice.{if_then_else_}
+use Rattle.octets.specs.Octets.{part}
+use Rattle.octets.specs.Pages.{Fit, readings, values}
+use Rattle.octets.proofs.Tests.{and-left, and-right}
+use Rattle.octets.proofs.Runs.{Apart, part-same, part-other}
+use Rattle.octets.proofs.Pages.{read-back}
+use Rattle.record.specs.declared.Attributes.{Attributes}
+use Rattle.record.specs.declared.Events.{Events}
+use Rattle.record.specs.declared.Config.{Config}
+use Rattle.record.specs.declared.Window.{Window}
+use Rattle.record.specs.declared.Window.the-variants.{Off, D, N}
+use Rattle.record.specs.declared.Quantity.{Quantity}
+use Rattle.record.specs.declared.Quantity.the-variants.{Reads, Writes, Time}
+use Rattle.record.specs.declared.State.{State}
+use Rattle.record.specs.declared.Record.{Record}
+use Rattle.record.specs.Record.{limit, spent, need}
+use Rattle.record.specs.Window.{byWindow, windowNo}
+use Rattle.record.specs.Legal.{typicalMaximum, dayMs, legalAttributes}
+use Rattle.record.specs.Events.{bit, bitsOf, eventsIn, estimate}
+use Rattle.record.proofs.Bits.{events-back}
+use Rattle.pages.specs.Numbers.{numberAt}
+use Rattle.pages.specs.Bodies.{bodySize, bodyFields, body, attributesIn, Sized}
+use Rattle.pages.specs.Latency.{latencySize, latencyFields, latencyPage}
+use Rattle.pages.specs.Features.{featureSize, configFields, configPage, configIn, Words}
+use Rattle.pages.proofs.Numbers.{number-below, number-within, length-place}
+
+-- ---- set-up bodies
+
+-- attributes by the list of a body's numbers
+abbrev attributesOf : List ℕ → Attributes
+attributesOf l =
+    record {
+      id = record { 0 = getD l 0 0 };
+      group = record { 0 = getD l 1 0 };
+      «random_read_typical» = getD l 2 0;
+      «optimal_write_size» = getD l 3 0;
+      total = record { low = getD l 4 0; high = getD l 5 0 };
+      unallocated = record { low = getD l 6 0; high = getD l 7 0 };
+      «reads_typical» = getD l 8 0;
+      «writes_typical» = getD l 9 0;
+      «time_maximum» = getD l 10 0;
+      «minimum_high» = getD l 11 0;
+      «minimum_low» = getD l 12 0;
+    }
+
+sized-fit : (a : Attributes) → Sized a → Fit (bodyFields a)
+sized-fit a s = search needs
+
+-- a body's attributes are those that it was made of
+pub body-back : (a : Attributes) → Sized a → attributesIn (body a) 0 ≡ a
+unfolding body
+body-back a s = ap attributesOf (read-back bodySize (bodyFields a) refl (sized-fit a s))
+
+-- attributes are read from a body's bytes alone
+module _ (l : List ℕ) (at : ℕ) where
+  there : (k w : ℕ) → k + w ≤ bodySize → numberAt (part l at bodySize) k w ≡ numberAt l (at + k) w
+  there k w h = number-within l at bodySize k w h
+
+  pub body-alone : attributesIn (part l at bodySize) 0 ≡ attributesIn l at
+  body-alone =
+      let total : at + 12 + 8 ≡ at + 20 = omega arith in
+      let unallocated : at + 28 + 8 ≡ at + 36 = omega arith in
+      rw (total, unallocated, there 0 2 (omega arith), add-zero, there 2 2 (omega arith), there 4 4 (omega arith), there 8 4 (omega arith), there 12 8 (omega arith), there 20 8 (omega arith), there 28 8 (omega arith), there 36 8 (omega arith), there 44 8 (omega arith), there 52 8 (omega arith), there 60 8 (omega arith), there 68 8 (omega arith), there 76 8 (omega arith))
+
+pub body-length : (a : Attributes) → length (body a) ≡ bodySize
+unfolding body
+body-length a = length-place bodySize (bodyFields a)
+
+-- a body stored among bytes is read back there, and bodies elsewhere are as they were
+module _ (l : List ℕ) (at : ℕ) (a : Attributes) where
+  pub body-stored : at + bodySize ≤ length l → Sized a → attributesIn (sets l at (body a)) at ≡ a
+  body-stored h s =
+      sym (body-alone (sets l at (body a)) at)
+      ∙ ap (λ (b : List ℕ). attributesIn b 0) (part-same (body a) l at bodySize (body-length a) h)
+      ∙ body-back a s
+
+  pub body-elsewhere : (at′ : ℕ) → Apart at bodySize at′ bodySize → attributesIn (sets l at (body a)) at′ ≡ attributesIn l at′
+  body-elsewhere at′ o =
+      sym (body-alone (sets l at (body a)) at′)
+      ∙ ap (λ (b : List ℕ). attributesIn b 0) (part-other (body a) l at at′ bodySize (rw (body-length a) o))
+      ∙ body-alone l at′
+
+-- what is read from bytes fits
+module _ (bytes : List ℕ) (each : (i : ℕ) → getD bytes i 0 < 256) (at : ℕ) (room : at + bodySize ≤ length bytes) where
+  pub read-sized : Sized (attributesIn bytes at)
+  read-sized =
+      record {
+        id = number-below bytes each at 2 (omega arith);
+        group = number-below bytes each (at + 2) 2 (omega arith);
+        «random_read_typical» = number-below bytes each (at + 4) 4 (omega arith);
+        «optimal_write_size» = number-below bytes each (at + 8) 4 (omega arith);
+        «total_low» = number-below bytes each (at + 12) 8 (omega arith);
+        «total_high» = number-below bytes each (at + 12 + 8) 8 (omega arith);
+        «unallocated_low» = number-below bytes each (at + 28) 8 (omega arith);
+        «unallocated_high» = number-below bytes each (at + 28 + 8) 8 (omega arith);
+        «reads_typical» = number-below bytes each (at + 44) 8 (omega arith);
+        «writes_typical» = number-below bytes each (at + 52) 8 (omega arith);
+        «time_maximum» = number-below bytes each (at + 60) 8 (omega arith);
+        «minimum_high» = number-below bytes each (at + 68) 8 (omega arith);
+        «minimum_low» = number-below bytes each (at + 76) 8 (omega arith);
+      }
+
+-- ---- the data of feature 13h
+
+-- a configuration by the list of its page's numbers
+abbrev configOf : List ℕ → Config
+configOf l = record { enabled = eventsIn (getD l 0 0); thresholds = record { reads = getD l 1 0; writes = getD l 2 0; time = getD l 3 0 } }
+
+bit-small : (b : Bool) → bit b ≤ 1
+bit-small true = omega arith
+bit-small false = omega arith
+
+-- event bits take two bytes
+pub bits-small : (e : Events) → bitsOf e < 2 ^ 16
+bits-small e =
+    omega (arith, bit-small (e .reads), bit-small (e .writes), bit-small (e .time), bit-small (e .exceeded), bit-small (e .excursion))
+
+-- what Set Features stores, Get Features hands back
+pub config-back : (c : Config) → Words (c .thresholds) → configIn (configPage c) ≡ c
+unfolding configPage
+config-back c w =
+    rw (events-back (c .enabled)) at
+    (ap configOf (read-back featureSize (configFields c) refl (bits-small (c .enabled), (w .reads, (w .writes, (w .time, tt))))))
+
+-- what is read from bytes fits
+pub read-words : (bytes : List ℕ) → ((i : ℕ) → getD bytes i 0 < 256) → featureSize ≤ length bytes → Words (configIn bytes .thresholds)
+read-words bytes each room =
+    record {
+      reads = number-below bytes each 32 8 (omega arith);
+      writes = number-below bytes each 40 8 (omega arith);
+      time = number-below bytes each 48 8 (omega arith);
+    }
+
+-- ---- log page 0Ah
+
+window-small : (w : Window) → windowNo w < 2 ^ 8
+window-small Off = omega arith
+window-small D = omega arith
+window-small N = omega arith
+
+left-below : (w : Window) (most n : ℕ) (b : Bool) → byWindow w 0 (most - n) (if b then most else 0) ≤ most
+left-below Off most n b = omega arith
+left-below D most n b = omega arith
+left-below N most n true = omega arith
+left-below N most n false = omega arith
+
+-- an estimate is at most the quantity's limit
+pub estimate-below : (q : Quantity) (a : Attributes) (s : State) → estimate q a s ≤ limit q a
+estimate-below q a s = left-below (s .window) (limit q a) (spent q s) (eqb (s .«n_time») (need a))
+
+-- what legality says of the statics on the page
+record Limits (a : Attributes) : Type 0 where
+  reads : a .«reads_typical» ≤ typicalMaximum
+  writes : a .«writes_typical» ≤ typicalMaximum
+  time : a .«time_maximum» ≤ dayMs
+  high : a .«minimum_high» ≤ dayMs
+  low : a .«minimum_low» ≤ dayMs
+
+limits : (a : Attributes) → legalAttributes a ≡ true → Limits a
+limits a h =
+    record {
+      reads = search (and-left, and-right, leb-true) depth 12;
+      writes = search (and-left, and-right, leb-true) depth 12;
+      time = search (and-left, and-right, leb-true) depth 12;
+      high = search (and-left, and-right, leb-true) depth 12;
+      low = search (and-left, and-right, leb-true) depth 12;
+    }
+
+-- what page 0Ah shows of a legal record fits its places
+pub latency-fit : (r : Record) → legalAttributes (r .attributes) ≡ true → Fit (latencyFields r)
+latency-fit r h =
+    let a = r .attributes in
+    let l = limits a h in
+    let reads : estimate Reads a (r .state) < 2 ^ 64 = omega (arith, estimate-below Reads a (r .state)) in
+    let writes : estimate Writes a (r .state) < 2 ^ 64 = omega (arith, estimate-below Writes a (r .state)) in
+    let time : estimate Time a (r .state) < 2 ^ 64 = omega (arith, estimate-below Time a (r .state)) in
+    (window-small (r .state .window), (bits-small (r .notes .events), (omega arith, (omega arith, (omega arith, (omega arith, (omega arith, (reads, (writes, (time, tt))))))))))
+
+-- page 0Ah read at its fields gives back what the record says
+pub latency-back : (r : Record) → legalAttributes (r .attributes) ≡ true → readings (latencyPage r) (latencyFields r) ≡ values (latencyFields r)
+unfolding latencyPage
+latency-back r h = read-back latencySize (latencyFields r) refl (latency-fit r h)

@@ -1,0 +1,163 @@
+-- Entries shown or passed over, over plain variables.
+use mathlib.Core.Path.{_≡_, refl, sym, ap, _∙_}
+use mathlib.Core.Bool.{Bool, true, false}
+use mathlib.Core.List.{List, [], _∷_, _++_}
+use mathlib.Core.Logic.{inr}
+use Prim.Native.Nat.{ℕ, suc, _+_, _*_, _-_, _/_, _≤_, _<_}
+use native.Mathlib.Omega.{arith}
+use native.Mathlib.Nat.{add-zero}
+use borrow.Author.Tests.{leb-true, le-leb, lt-leb}
+use lib.Dec.{leb}
+use lib.ListN.{length, replicate, length-append}
+use lib.Seq.{sets}
+use Rattle.octets.specs.Octets.{bytesOf}
+use borrow.Author.Needs.{needs}
+use Rattle.octets.specs.Pages.{Field, puts, tidy, Fit, readings, values}
+use Rattle.octets.proofs.Tests.{both}
+use Rattle.octets.proofs.Runs.{sets-comm}
+use Rattle.octets.proofs.Pages.{placed, read-back}
+use Rattle.pages.proofs.Numbers.{length-puts}
+use Rattle.record.specs.declared.Attributes.{Attributes}
+use Rattle.pages.specs.Bodies.{Sized, AllSized}
+use Rattle.pages.specs.Identify.{identifySize, entrySize, firstEntry, identifyEntries, shownIf, shown, entryFields, entriesAt, identifyFields, identifyPage, Shows}
+
+-- the fields of an entry stand in order, and what follows them after its last
+entry-tidy : (to from size : ℕ) (a : Attributes) (fs : List Field) → from ≤ to → tidy (to + 40 + 8) size fs ≡ true → tidy from size (entryFields to a ++ fs) ≡ true
+entry-tidy to from size a fs l h =
+    rw (le-leb from to l, le-leb (to + 2) (to + 2) (omega arith), le-leb (to + 2 + 2) (to + 8) (omega arith), le-leb (to + 8 + 4) (to + 12) (omega arith), le-leb (to + 12 + 4) (to + 16) (omega arith), le-leb (to + 16 + 8) (to + 24) (omega arith), le-leb (to + 24 + 8) (to + 32) (omega arith), le-leb (to + 32 + 8) (to + 40) (omega arith)) h
+
+pub one-tidy : (to size : ℕ) (a : Attributes) → to + entrySize ≤ size → tidy 0 size (entryFields to a) ≡ true
+one-tidy to size a h = entry-tidy to 0 size a [] (omega arith) (le-leb (to + 40 + 8) size (omega arith))
+
+-- ---- one set: what its test says
+
+module _ (page : List ℕ) (to from : ℕ) (a : Attributes) where
+  pub is-shown : (after : List ℕ) → from ≤ a .id .0 → after ≡ puts page (entryFields to a) → Shows from a page to after (to + entrySize)
+  is-shown after h e = let k = le-leb from (a .id .0) h in record { entry = rw k e; place = rw k }
+
+  pub not-shown : a .id .0 < from → Shows from a page to page to
+  not-shown h = let k = lt-leb from (a .id .0) h in record { entry = rw k; place = rw k (omega arith) }
+
+-- ---- the first set, and the rest
+
+shown-more : (b : Bool) (a : Attributes) (others : List Attributes) → shownIf b a others ≡ shownIf b a [] ++ others
+shown-more true a others = refl
+shown-more false a others = refl
+
+one-at-most : (b : Bool) (a : Attributes) → length (shownIf b a []) ≤ 1
+one-at-most true a = omega arith
+one-at-most false a = omega arith
+
+shown-first : (from : ℕ) (a : Attributes) (others : List Attributes) → shown from (a ∷ others) ≡ shown from (a ∷ []) ++ shown from others
+shown-first from a others = shown-more (leb from (a .id .0)) a (shown from others)
+
+entries-more : (xs ys : List Attributes) (to : ℕ) → entriesAt to (xs ++ ys) ≡ entriesAt to xs ++ entriesAt (to + entrySize * length xs) ys
+entries-more [] ys to = rw add-zero
+entries-more (a ∷ xs) ys to =
+    let e : to + entrySize + entrySize * length xs ≡ to + entrySize * suc (length xs) = omega arith in
+    ap (λ (fs : List Field). entryFields to a ++ fs) (entries-more xs ys (to + entrySize) ∙ rw e)
+
+puts-more : (fs gs : List Field) (page : List ℕ) → puts page (fs ++ gs) ≡ puts (puts page fs) gs
+puts-more [] gs page = refl
+puts-more (f ∷ fs) gs page = puts-more fs gs (sets page (f .at) (bytesOf (f .width) (f .value)))
+
+-- the entries of sets stand in order
+entries-tidy : (xs : List Attributes) (to from size : ℕ) → from ≤ to → to + entrySize * length xs ≤ size → tidy from size (entriesAt to xs) ≡ true
+entries-tidy [] to from size l h = le-leb from size (omega arith)
+entries-tidy (a ∷ xs) to from size l h = entry-tidy to from size a (entriesAt (to + entrySize) xs) l (entries-tidy xs (to + entrySize) (to + 40 + 8) size (omega arith) (omega arith))
+
+-- bytes at the start may be put before the fields after them, or last
+put-later : (fs : List Field) (l v : List ℕ) (from size : ℕ) → tidy from size fs ≡ true → length v ≤ from → sets (puts l fs) 0 v ≡ puts (sets l 0 v) fs
+put-later [] l v from size h o = refl
+put-later (f ∷ fs) l v from size h o =
+    let b = both (leb from (f .at)) (tidy (f .at + f .width) size fs) h in
+    let k : from ≤ f .at = leb-true from (f .at) (b .0) in
+    let u : List ℕ = bytesOf (f .width) (f .value) in
+    put-later fs (sets l (f .at) u) v (f .at + f .width) size (b .1) (omega arith)
+    ∙ ap (λ (m : List ℕ). puts m fs) (sym (sets-comm u v l 0 (f .at) (inr (omega arith))))
+
+-- ---- a loop that shows sets one after the other
+
+-- what holds at each turn: showing the sets that are left, from here, is showing them all on the page as it was
+pub record Showing (page₀ : List ℕ) (from : ℕ) (all : List Attributes) (page : List ℕ) (to : ℕ) (left : List Attributes) : Type 0 where
+  pub long : length page ≡ length page₀
+  pub room : to + entrySize * length left ≤ length page₀
+  pub count : to + entrySize * length (shown from left) ≡ firstEntry + entrySize * length (shown from all)
+  pub same : puts page (entriesAt to (shown from left)) ≡ puts page₀ (entriesAt firstEntry (shown from all))
+
+module _ (page₀ : List ℕ) (from : ℕ) (all : List Attributes) where
+  pub show-start : firstEntry + entrySize * length all ≤ length page₀ → Showing page₀ from all page₀ firstEntry all
+  show-start h = record { long = refl; room = h; count = refl; same = refl }
+
+  module _ (page : List ℕ) (to : ℕ) (a : Attributes) (left : List Attributes) (s : Showing page₀ from all page to (a ∷ left)) where
+    pub show-room : to + entrySize ≤ length page
+    show-room = omega arith
+
+    pub show-turn : (after : List ℕ) (next : ℕ) → Shows from a page to after next → Showing page₀ from all after next left
+    show-turn after next d =
+        let one : List Attributes = shown from (a ∷ []) in
+        let rest : List Attributes = shown from left in
+        let split : shown from (a ∷ left) ≡ one ++ rest = shown-first from a left in
+        let few : length one ≤ 1 = one-at-most (leb from (a .id .0)) a in
+        let n : length (shown from (a ∷ left)) ≡ length one + length rest = ap length split ∙ length-append one rest in
+        let goes : puts page (entriesAt to (shown from (a ∷ left))) ≡ puts (puts page (entriesAt to one)) (entriesAt (to + entrySize * length one) rest) =
+        ap (λ (l : List Attributes). puts page (entriesAt to l)) split
+        ∙ ap (puts page) (entries-more one rest to)
+        ∙ puts-more (entriesAt to one) (entriesAt (to + entrySize * length one) rest) page
+        in record {
+          long = ap length (d .entry) ∙ length-puts (entriesAt to one) page ∙ s .long;
+          room = omega arith;
+          count = omega arith;
+          same = rw (d .place, d .entry) (sym goes ∙ s .same);
+        }
+
+  -- none is left: all are shown
+  pub show-end : (page : List ℕ) (to : ℕ) → Showing page₀ from all page to []
+      → (to ≡ firstEntry + entrySize * length (shown from all)) × (page ≡ puts page₀ (entriesAt firstEntry (shown from all)))
+  show-end page to s = (omega arith, s .same)
+
+-- the count, put when all are shown, completes the page
+pub show-whole : (from : ℕ) (all : List Attributes) (page page′ : List ℕ) (to : ℕ) → to ≡ firstEntry + entrySize * length (shown from all)
+    → page ≡ puts (replicate identifySize 0) (entriesAt firstEntry (shown from all))
+    → page′ ≡ sets page 0 (bytesOf 1 ((to - firstEntry) / entrySize)) → page′ ≡ identifyPage from all
+unfolding identifyPage
+show-whole from all page page′ to et ep ec =
+    let listed : List Attributes = shown from all in
+    let n : (to - firstEntry) / entrySize ≡ length listed = omega arith in
+    ec
+    ∙ ap (λ (k : ℕ). sets page 0 (bytesOf 1 k)) n
+    ∙ ap (λ (l : List ℕ). sets l 0 (bytesOf 1 (length listed))) ep
+    ∙ put-later (entriesAt firstEntry listed) (replicate identifySize 0) (bytesOf 1 (length listed)) 1 (firstEntry + entrySize * length listed)
+    (entries-tidy listed firstEntry 1 (firstEntry + entrySize * length listed) (omega arith) (omega arith)) (omega arith)
+    ∙ placed identifySize (identifyFields listed)
+
+-- ---- the page read back
+
+shown-few : (from : ℕ) (xs : List Attributes) → length (shown from xs) ≤ length xs
+shown-few from [] = omega arith
+shown-few from (a ∷ xs) =
+    omega (arith, shown-few from xs, one-at-most (leb from (a .id .0)) a, ap length (shown-first from a xs) ∙ length-append (shown from (a ∷ [])) (shown from xs))
+
+sized-if : (b : Bool) (a : Attributes) (others : List Attributes) → Sized a → AllSized others → AllSized (shownIf b a others)
+sized-if true a others s o = (s, o)
+sized-if false a others s o = o
+
+shown-sized : (from : ℕ) (xs : List Attributes) → AllSized xs → AllSized (shown from xs)
+shown-sized from [] s = tt
+shown-sized from (a ∷ xs) s = sized-if (leb from (a .id .0)) a (shown from xs) (s .0) (shown-sized from xs (s .1))
+
+entries-fit : (xs : List Attributes) (to : ℕ) → AllSized xs → Fit (entriesAt to xs)
+entries-fit [] to s = tt
+entries-fit (a ∷ xs) to s =
+    let f = entries-fit xs (to + entrySize) (s .1) in
+    let z = s .0 in
+    search needs
+
+-- the page read at its fields gives back the count and the entries
+pub identify-back : (from : ℕ) (all : List Attributes) → length all ≤ identifyEntries → AllSized all
+    → readings (identifyPage from all) (identifyFields (shown from all)) ≡ values (identifyFields (shown from all))
+unfolding identifyPage
+identify-back from all few s =
+    let n = shown-few from all in
+    read-back identifySize (identifyFields (shown from all)) (entries-tidy (shown from all) firstEntry 1 identifySize (omega arith) (omega arith))
+    (omega arith, entries-fit (shown from all) firstEntry (shown-sized from all s))

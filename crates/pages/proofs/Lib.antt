@@ -1,0 +1,4 @@
+pub mod Numbers
+pub mod Back
+pub mod Listed
+pub mod Entries

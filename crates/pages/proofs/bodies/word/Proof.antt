@@ -1,0 +1,16 @@
+use native.Mathlib.Omega.{arith}
+use borrow.Author.Needs.{needs}
+use Rattle.pages.proofs.Numbers.{number-below}
+use Rattle.pages.proofs.bodies.word.Statement.{statement}
+use Rattle.pages.proofs.bodies.word.Tie as tie
+
+pub word-spec : {M : Type 1} → statement M
+word-spec =
+    tie.close
+    (tie.spec
+    (λ c κs. search needs)
+    (λ c. search needs)
+    (λ c.
+    let k = c .before .shared-slice-known .given in
+    let s = c .before .before .args in
+    omega (arith, c .get .ensures, number-below (s .bytes .now) (λ i. omega (arith, k i)) (s .at) 4 (search needs))))

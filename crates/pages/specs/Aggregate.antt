@@ -1,0 +1,48 @@
+-- 01, "Commands": log page 0Bh.
+use mathlib.Core.Bool.{Bool}
+use mathlib.Core.List.{List, [], _∷_}
+use Prim.Native.Nat.{ℕ, _+_, _/_, _%_}
+use lib.Dec.{eqb}
+use lib.ListN.{length}
+use Rattle.octets.specs.Choice.{if_then_else_}
+use Rattle.octets.specs.Pages.{Field, field, place}
+
+-- "Up to 31 sets."
+abbrev pub mostSets : ℕ
+mostSets = 31
+
+-- ---- the listed sets
+
+-- an identifier before others, where its set is listed
+abbrev pub listedIf : Bool → ℕ → List ℕ → List ℕ
+listedIf listed id others = if listed then id ∷ others else others
+
+-- the identifiers whose mark is set, in their order
+abbrev pub picked : List ℕ → List Bool → List ℕ
+picked [] marks = []
+picked (id ∷ ids) [] = []
+picked (id ∷ ids) (mark ∷ marks) = listedIf mark id (picked ids marks)
+
+-- the same by a word: "The listed marks of all sets are gathered as one word of bits", the first set's lowest
+abbrev pub listedBy : ℕ → List ℕ → List ℕ
+listedBy word [] = []
+listedBy word (id ∷ ids) = listedIf (eqb (word % 2) 1) id (listedBy (word / 2) ids)
+
+-- ---- the page
+
+-- "0Bh, 72 bytes"
+abbrev pub aggregateSize : ℕ
+aggregateSize = 72
+
+-- "two bytes each", from a place
+abbrev pub entriesFrom : ℕ → List ℕ → List Field
+entriesFrom at [] = []
+entriesFrom at (id ∷ ids) = field at 2 id ∷ entriesFrom (at + 2) ids
+
+-- "7:0 number of entries, then two bytes each, rising"
+abbrev pub listFields : List ℕ → List Field
+listFields ids = field 0 8 (length ids) ∷ entriesFrom 8 ids
+
+-- "then zeros"
+unfoldable pub aggregatePage : List ℕ → List ℕ
+aggregatePage ids = place aggregateSize (listFields ids)

@@ -1,0 +1,73 @@
+-- 01, "Commands": Identify 04h, the NVM Set List.
+use mathlib.Core.Path.{_≡_}
+use mathlib.Core.Bool.{Bool}
+use mathlib.Core.List.{List, [], _∷_, _++_}
+use Prim.Native.Nat.{ℕ, _+_, _*_}
+use lib.Dec.{leb}
+use lib.ListN.{length}
+use Rattle.octets.specs.Choice.{if_then_else_}
+use Rattle.octets.specs.Pages.{Field, field, puts, place}
+use Rattle.record.specs.declared.Attributes.{Attributes}
+
+-- "Identify 04h, 4,096 bytes"
+abbrev pub identifySize : ℕ
+identifySize = 4096
+
+-- "entries of 128 bytes"
+abbrev pub entrySize : ℕ
+entrySize = 128
+
+-- "from byte 128"
+abbrev pub firstEntry : ℕ
+firstEntry = 128
+
+-- as many entries as the page has room for, and as there may be sets
+abbrev pub identifyEntries : ℕ
+identifyEntries = 31
+
+-- ---- the sets shown
+
+-- a set before others, where it is shown
+abbrev pub shownIf : Bool → Attributes → List Attributes → List Attributes
+shownIf show a others = if show then a ∷ others else others
+
+-- "sets with identifier at or above CDW11 15:0"
+abbrev pub shown : ℕ → List Attributes → List Attributes
+shown from [] = []
+shown from (a ∷ others) = shownIf (leb from (a .id .0)) a (shown from others)
+
+-- ---- the page
+
+-- "Entry: 1:0 identifier, 3:2 group, 11:8 random read typical, 15:12 optimal write size, 31:16 total, 47:32 unallocated":
+-- the entry that starts at a place. A capacity is two fields, its lower 64 bits first.
+abbrev pub entryFields : ℕ → Attributes → List Field
+entryFields to a =
+    field to 2 (a .id .0)
+    ∷ field (to + 2) 2 (a .group .0)
+    ∷ field (to + 8) 4 (a .«random_read_typical»)
+    ∷ field (to + 12) 4 (a .«optimal_write_size»)
+    ∷ field (to + 16) 8 (a .total .low)
+    ∷ field (to + 24) 8 (a .total .high)
+    ∷ field (to + 32) 8 (a .unallocated .low)
+    ∷ field (to + 40) 8 (a .unallocated .high)
+    ∷ []
+
+-- the entries of sets, packed from a place
+abbrev pub entriesAt : ℕ → List Attributes → List Field
+entriesAt to [] = []
+entriesAt to (a ∷ others) = entryFields to a ++ entriesAt (to + entrySize) others
+
+-- "byte 0 count; entries of 128 bytes from byte 128"
+abbrev pub identifyFields : List Attributes → List Field
+identifyFields sets = field 0 1 (length sets) ∷ entriesAt firstEntry sets
+
+-- "rest zero"
+unfoldable pub identifyPage : ℕ → List Attributes → List ℕ
+identifyPage from sets = place identifySize (identifyFields (shown from sets))
+
+-- ---- one set at a time
+
+-- a set, if it is to be shown, put on a page at a place: the page after it, and the next place
+pub record Shows (from : ℕ) (a : Attributes) (page : List ℕ) (to : ℕ) (after : List ℕ) (next : ℕ) : Type 0 where
+  pub entry : after ≡ puts page (entriesAt to (shown from (a ∷ [])))
+  pub place : next ≡ to + entrySize * length (shown from (a ∷ []))
