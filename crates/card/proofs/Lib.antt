@@ -4,3 +4,4 @@ pub mod Slots
 pub mod Frame
 pub mod Events
 pub mod Kept
+pub mod NewSets

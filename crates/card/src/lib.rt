@@ -1,2 +1,3 @@
 // The card: media events and ticks on a lent table of words.
 pub mod media;
+pub mod setting;
