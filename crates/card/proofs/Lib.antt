@@ -5,3 +5,4 @@ pub mod Frame
 pub mod Events
 pub mod Kept
 pub mod NewSets
+pub mod Stacked

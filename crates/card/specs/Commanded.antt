@@ -65,6 +65,16 @@ named k c given room =
       done = doneBy k c;
     }
 
+-- the set that it names
+abbrev pub namedBy : Kind → Command → ℕ
+namedBy SetConfig c = featureSet c
+namedBy SetWindow c = featureSet c
+namedBy GetConfig c = featureSet c
+namedBy GetWindow c = featureSet c
+namedBy ReadLatency c = logSet c
+namedBy ReadAggregate c = 0
+namedBy Identify c = 0
+
 -- ---- commands that name none: "Identify and 0Bh name none." "Reading changes nothing."
 
 -- the identifiers of the listed sets, "rising" as the sets are

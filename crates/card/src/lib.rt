@@ -2,3 +2,4 @@
 pub mod commands;
 pub mod media;
 pub mod setting;
+mod status;
