@@ -6,3 +6,5 @@ pub mod Events
 pub mod Kept
 pub mod NewSets
 pub mod Stacked
+pub mod Passing
+pub mod Carried

@@ -6,5 +6,6 @@ pub mod Commanded
 pub mod Meanings
 pub mod Card
 pub mod Words
+pub mod OnSet
 pub mod Media
 pub mod SetUp

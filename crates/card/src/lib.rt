@@ -1,4 +1,5 @@
 // The card: media events and ticks on a lent table of words.
+pub mod answering;
 pub mod commands;
 pub mod media;
 pub mod setting;

@@ -26,6 +26,10 @@ refused status = record { status = status; dword = 0; bytes = [] }
 abbrev pub answered : ℕ → ℕ → List ℕ → Answer
 answered status dword bytes = if eqb status 0 then granted dword bytes else refused status
 
+-- the reply to a refusal
+abbrev pub refusing : ℕ → Reply
+refusing status = record { status = status; dword = 0; len = 0 }
+
 -- the part `&mut buffer[0..n]` of a buffer, as code makes it
 abbrev pub cut : List ℕ → ℕ → List ℕ
 cut buffer n = take (n - 0) buffer

@@ -1,0 +1,23 @@
+use borrow.Author.Needs.{needs}
+use Rattle.card.proofs.Passing.{page-long}
+use Rattle.card.proofs.Carried.{handed}
+use Rattle.card.proofs.answering.hand_by.Statement.{statement}
+use Rattle.card.proofs.answering.hand_by.Tie as tie
+
+pub hand-by-spec : {M : Type 1} → statement M
+hand-by-spec =
+    tie.close
+    (tie.spec
+    (λ c κs. search needs)
+    (λ c κs. search needs)
+    (λ c κs. search needs)
+    (λ c κs. search needs)
+    (λ c. search needs)
+    (λ c κs. search needs)
+    (λ c. search needs)
+    (λ c.
+    let o = c .before .before in
+    let n = o .before .before .before in
+    let p = n .before .before .before in
+    let s = p .before .before in
+    handed (s .args .k) (s .args .c) (s .args .r) (s .pre .0) _ _ _ _ _ _ _ (n .before .before .dword-by .ensures) (p .page-by .ensures) (n .before .from-by .ensures) (n .needs-out .ensures) (o .hand-out .ensures)))

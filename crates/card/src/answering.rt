@@ -1,0 +1,236 @@
+// What a command does and answers, from its 64 bytes.
+ghost use mathlib.Core.Path.{_≡_};
+ghost use mathlib.Core.Bool.{true, false};
+ghost use mathlib.Core.List.{[], _∷_, map};
+ghost use Prim.Native.Nat.{_+_, _≤_};
+ghost use lib.ListN.{length};
+ghost use Rattle.octets.specs.Choice.{if_then_else_};
+ghost use Rattle.record.specs.Events.{settled};
+ghost use Rattle.replies.specs.Answers.{refusing, Replied};
+ghost use Rattle.table.specs.Table.{rowStart, Legal, recordsOf};
+ghost use Rattle.record.specs.Window.{windowNo};
+ghost use Rattle.rules.specs.Rules.{still, clearingRead};
+ghost use Rattle.pages.specs.Latency.{latencySize};
+ghost use Rattle.pages.specs.Identify.{identifyPage};
+ghost use Rattle.pages.specs.Aggregate.{aggregatePage};
+ghost use Rattle.card.specs.Items.{Item, Nobody, The};
+ghost use Rattle.card.specs.Commands.{kindOf, needsIn, needsOut, asked};
+ghost use Rattle.card.specs.Commanded.{isNamed, readRule, ruleBy, modeNo, doneBy, dwordBy, pageBy, fromBy, namedBy, named, listedIds, viewed, aggregateOf, setListOf};
+ghost use Rattle.card.specs.Meanings.{meaning};
+ghost use Rattle.card.specs.Words.{Answered};
+ghost use Rattle.card.specs.OnSet.{statusOn, OnSet};
+use crate::commands::Command;
+use crate::commands::Kind;
+use crate::commands::asked_by;
+use crate::commands::command_in;
+use crate::commands::enables;
+use crate::commands::feature_set;
+use crate::commands::kind_of;
+use crate::commands::log_set;
+use crate::commands::needs_out;
+use crate::commands::offset_of;
+use crate::commands::retains;
+use crate::commands::window_cause;
+use crate::status::found_status;
+use crate::status::unknown_status;
+use crate::status::view_status;
+use pages::features::config_in;
+use pages::features::config_page;
+use pages::latency::latency_page;
+use record::Attributes;
+use record::Effect;
+use record::Record;
+use record::SetId;
+use record::Slot;
+use record::State;
+use record::Window;
+use record::notices::settle;
+use record::windows::window_no;
+use replies::Reply;
+use rules::clearing_read;
+use rules::go_to_selected;
+use rules::keep_still;
+use rules::set_mode;
+use table::Entry;
+use table::enter;
+use table::legal;
+use table::load;
+use table::store;
+
+fn refuse(status: u16) -> Reply
+    ensures { λ r. ⌜ r ≡ refusing status ⌝ }
+{
+    Reply {
+        status,
+        dword: 0,
+        len: 0,
+    }
+}
+
+fn read_rule(c: Command, s: State) -> Effect
+    ensures { λ r. ⌜ r ≡ readRule c s ⌝ }
+{
+    read_by(retains(c), s)
+}
+
+fn read_by(retain: bool, s: State) -> Effect
+    ensures { λ r. ⌜ r ≡ (if retain then still s else clearingRead s) ⌝ }
+{
+    if retain {
+        keep_still(s)
+    } else {
+        clearing_read(s)
+    }
+}
+
+// Only Set Features 13h looks at the data in.
+fn rule_by(k: Kind, c: Command, given: &[u8], a: Attributes, s: State) -> Effect
+    requires { ⌜ needsIn k ≤ length (now given) ⌝ }
+    ensures { λ r. ⌜ r ≡ ruleBy k c (now (given .entry)) a s ⌝ }
+{
+    match k {
+        Kind::SetConfig => set_mode(s, enables(c), config_in(given)),
+        Kind::SetWindow => go_to_selected(a, s, window_cause(c)),
+        Kind::GetConfig => keep_still(s),
+        Kind::GetWindow => keep_still(s),
+        Kind::ReadLatency => read_rule(c, s),
+        Kind::ReadAggregate => keep_still(s),
+        Kind::Identify => keep_still(s),
+    }
+}
+
+fn mode_no(s: State) -> u32
+    ensures { λ r. ⌜ r ≡ modeNo s ⌝ }
+{
+    let w = s.window;
+    match w {
+        Window::Off => 0,
+        Window::D => 1,
+        Window::N => 1,
+    }
+}
+
+fn window_word(s: State) -> u32
+    ensures { λ r. ⌜ r ≡ windowNo (s .window) ⌝ }
+{
+    let w = s.window;
+    match w {
+        Window::Off => 0,
+        Window::D => 1,
+        Window::N => 2,
+    }
+}
+
+fn dword_by(k: Kind, r: Record) -> u32
+    ensures { λ n. ⌜ n ≡ dwordBy k r ⌝ }
+{
+    let s = r.state;
+    match k {
+        Kind::SetConfig => 0,
+        Kind::SetWindow => 0,
+        Kind::GetConfig => mode_no(s),
+        Kind::GetWindow => window_word(s),
+        Kind::ReadLatency => 0,
+        Kind::ReadAggregate => 0,
+        Kind::Identify => 0,
+    }
+}
+
+fn page_by(k: Kind, r: Record) -> [u8; 512]
+    ensures { λ p. ⌜ p ≡ pageBy k r ⌝ }
+{
+    match k {
+        Kind::SetConfig => [0u8; 512],
+        Kind::SetWindow => [0u8; 512],
+        Kind::GetConfig => {
+            let config = r.state.config;
+            config_page(config)
+        }
+        Kind::GetWindow => [0u8; 512],
+        Kind::ReadLatency => latency_page(r),
+        Kind::ReadAggregate => [0u8; 512],
+        Kind::Identify => [0u8; 512],
+    }
+}
+
+fn from_by(k: Kind, c: Command) -> usize
+    ensures { λ n. ⌜ n ≡ fromBy k c ⌝ }
+{
+    let from = offset_of(c) as usize;
+    match k {
+        Kind::SetConfig => 0,
+        Kind::SetWindow => 0,
+        Kind::GetConfig => 0,
+        Kind::GetWindow => 0,
+        Kind::ReadLatency => from,
+        Kind::ReadAggregate => 0,
+        Kind::Identify => 0,
+    }
+}
+
+fn named_by(k: Kind, c: Command) -> u16
+    ensures { λ n. ⌜ n ≡ namedBy k c ⌝ }
+{
+    match k {
+        Kind::SetConfig => feature_set(c),
+        Kind::SetWindow => feature_set(c),
+        Kind::GetConfig => feature_set(c),
+        Kind::GetWindow => feature_set(c),
+        Kind::ReadLatency => log_set(c),
+        Kind::ReadAggregate => 0,
+        Kind::Identify => 0,
+    }
+}
+
+// The data of a command on a set, from the record before it is changed.
+fn hand_by(k: Kind, c: Command, r: Record, answer: &mut [u8]) -> Reply
+    requires { ⌜ (isNamed k ≡ true) × (fromBy k c ≤ latencySize) × (needsOut k c ≤ length (now answer)) ⌝ }
+    ensures { λ x. ⌜ Replied (doneBy k c r) (now (answer .entry)) x (now (answer .exit)) ⌝ }
+{
+    let page = page_by(k, r);
+    let dword = dword_by(k, r);
+    let from = from_by(k, c);
+    let n = needs_out(k, c) as usize;
+    replies::hand_out(0, dword, &page, from, n, answer)
+}
+
+// The record after a command that is carried out.
+fn after_command(r: Record, k: Kind, c: Command, given: &[u8]) -> Record
+    requires { ⌜ needsIn k ≤ length (now given) ⌝ }
+    ensures { λ x. ⌜ x ≡ settled r (ruleBy k c (now (given .entry)) (r .attributes) (r .state)) ⌝ }
+{
+    let a = r.attributes;
+    let s = r.state;
+    let e = rule_by(k, c, given, a, s);
+    settle(r, e)
+}
+
+fn status_on(k: Kind, c: Command, given: usize, room: usize, r: Record) -> u16
+    ensures { λ x. ⌜ x ≡ statusOn k c given room r ⌝ }
+{
+    let a = r.attributes;
+    let s = r.state;
+    found_status(k, c, given, room, a, s)
+}
+
+// A command that names a set, which was found.
+fn answer_set(
+    table: &mut [u64],
+    slot: Slot,
+    k: Kind,
+    c: Command,
+    given: &[u8],
+    answer: &mut [u8],
+) -> Reply
+    requires { ⌜ (k ≡ kindOf c) × (isNamed k ≡ true) × (rowStart (slot .0 + 1) ≤ length (now table)) ⌝ }
+    ensures { λ r. ⌜ OnSet (now (table .entry)) (slot .0) k c (now (given .entry)) (now (answer .entry)) r (now (table .exit)) (now (answer .exit)) ⌝ }
+{
+    let r = load(table, slot);
+    let status = status_on(k, c, given.len(), answer.len(), r);
+    if status == 0 {
+        store(table, slot, after_command(r, k, c, given));
+        hand_by(k, c, r, answer)
+    } else {
+        refuse(status)
+    }
+}
