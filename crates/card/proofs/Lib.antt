@@ -8,3 +8,4 @@ pub mod NewSets
 pub mod Stacked
 pub mod Passing
 pub mod Carried
+pub mod Naming

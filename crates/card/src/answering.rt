@@ -234,3 +234,17 @@ fn answer_set(
         refuse(status)
     }
 }
+
+// A command that names a set.
+fn answer_named(table: &mut [u64], k: Kind, c: Command, given: &[u8], answer: &mut [u8]) -> Reply
+    requires { ⌜ (k ≡ kindOf c) × (isNamed k ≡ true) ⌝ }
+    ensures { λ r. ⌜ ((i : Item) → meaning i ≡ The (namedBy k c) (named k c (now (given .entry)) (length (now (answer .entry)))) → Answered (now (table .entry)) i (now (answer .entry)) r (now (table .exit)) (now (answer .exit))) ⌝ }
+{
+    let id = named_by(k, c);
+    let e = enter(table, SetId(id));
+    match e {
+        Entry::Bad => refuse(0x07C3),
+        Entry::Unknown => refuse(unknown_status(c)),
+        Entry::Here(slot) => answer_set(table, slot, k, c, given, answer),
+    }
+}
