@@ -9,3 +9,5 @@ pub mod Stacked
 pub mod Passing
 pub mod Carried
 pub mod Naming
+pub mod Whole
+pub mod Viewing

@@ -14,6 +14,8 @@ use Rattle.record.specs.declared.Record.{Record}
 use Rattle.replies.specs.Status.{firstOf, NoneHolds}
 use Rattle.replies.specs.Answers.{granted}
 use Rattle.replies.proofs.Rows.{passed}
+use Rattle.pages.specs.Aggregate.{aggregateSize}
+use Rattle.pages.specs.Identify.{identifySize}
 use Rattle.pages.specs.Features.{configFields, configPage}
 use Rattle.pages.specs.Latency.{latencySize, latencyFields, latencyPage}
 use Rattle.pages.proofs.Numbers.{length-place}
@@ -92,13 +94,32 @@ fine k c given room a s e z =
       start = from-by k c e (n .1 .1 .1 .1 .1 .0);
     }
 
+-- what a status of 0 tells of a command that names no set
+view-room :
+    (k : Kind) (c : Command) (given room s : ℕ) → s ≡ firstOf (earlyLines c ++ shortLine k c given room ∷ []) → s ≡ 0
+    → (isGet c && not (eqb (select c) 0) || isLog c && partWrong c ≡ false) × (needsOut k c ≤ room)
+view-room k c given room s e z =
+    let n = passed (earlyLines c ++ shortLine k c given room ∷ []) refl (sym e ∙ z) in
+    (n .1 .1 .1 .1 .1 .0, ltb-false room (needsOut k c) (right-false (ltb given (needsIn k)) _ (n .1 .1 .1 .1 .1 .1 .0)))
+
+pub aggregate-fine :
+    (c : Command) (given room s : ℕ) → kindOf c ≡ ReadAggregate → s ≡ firstOf (earlyLines c ++ shortLine ReadAggregate c given room ∷ [])
+    → s ≡ 0 → (offset c ≤ aggregateSize) × (needsOut ReadAggregate c ≤ room)
+unfolding readsLog
+aggregate-fine c given room s q e z =
+    let v = view-room ReadAggregate c given room s e z in
+    (rw q at (start-within c (ap readsLog q) (v .0)), v .1)
+
+pub identify-fine : (c : Command) (given room s : ℕ) → s ≡ firstOf (earlyLines c ++ shortLine Identify c given room ∷ []) → s ≡ 0 → identifySize ≤ room
+identify-fine c given room s e z = view-room Identify c given room s e z .1
+
 -- ---- the answer as it is handed out
 
 padded-on : (x : ℕ) (xs : List ℕ) (at n : ℕ) → padded (x ∷ xs) (suc at) n ≡ padded xs at n
 padded-on x xs at zero = refl
 padded-on x xs at (suc n) = ap (getD xs at 0 ∷_) (padded-on x xs (suc at) n)
 
-padded-all : (l : List ℕ) → padded l 0 (length l) ≡ l
+pub padded-all : (l : List ℕ) → padded l 0 (length l) ≡ l
 padded-all [] = refl
 padded-all (x ∷ xs) = ap (x ∷_) (padded-on x xs 0 (length xs) ∙ padded-all xs)
 

@@ -7,5 +7,6 @@ pub mod Meanings
 pub mod Card
 pub mod Words
 pub mod OnSet
+pub mod Views
 pub mod Media
 pub mod SetUp

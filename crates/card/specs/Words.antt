@@ -36,3 +36,10 @@ pub record Stepped (ws : List ℕ) (i : Item) (after : List ℕ) (number : ℕ) 
 pub record Answered (ws : List ℕ) (i : Item) (before : List ℕ) (r : Reply) (words buffer : List ℕ) : Type 0 where
   pub table : words ≡ stepWords ws i .table
   pub reply : Replied (stepWords ws i .answer) before r buffer
+
+-- The same where the written part is handed back: the buffer itself is lent on with it, so nothing can be said of the bytes after it.
+pub record Handed (ws : List ℕ) (i : Item) (words : List ℕ) (status dword : ℕ) (part : List ℕ) : Type 0 where
+  pub table : words ≡ stepWords ws i .table
+  pub status-is : status ≡ stepWords ws i .answer .status
+  pub dword-is : dword ≡ stepWords ws i .answer .dword
+  pub part-is : part ≡ stepWords ws i .answer .bytes

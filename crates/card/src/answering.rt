@@ -17,7 +17,7 @@ ghost use Rattle.card.specs.Items.{Item, Nobody, The};
 ghost use Rattle.card.specs.Commands.{kindOf, needsIn, needsOut, asked};
 ghost use Rattle.card.specs.Commanded.{isNamed, readRule, ruleBy, modeNo, doneBy, dwordBy, pageBy, fromBy, namedBy, named, listedIds, viewed, aggregateOf, setListOf};
 ghost use Rattle.card.specs.Meanings.{meaning};
-ghost use Rattle.card.specs.Words.{Answered};
+ghost use Rattle.card.specs.Words.{Answered, Handed};
 ghost use Rattle.card.specs.OnSet.{statusOn, OnSet};
 use crate::commands::Command;
 use crate::commands::Kind;
@@ -25,6 +25,7 @@ use crate::commands::asked_by;
 use crate::commands::command_in;
 use crate::commands::enables;
 use crate::commands::feature_set;
+use crate::commands::is_log;
 use crate::commands::kind_of;
 use crate::commands::log_set;
 use crate::commands::needs_out;
@@ -34,6 +35,8 @@ use crate::commands::window_cause;
 use crate::status::found_status;
 use crate::status::unknown_status;
 use crate::status::view_status;
+use crate::views::aggregate_of;
+use crate::views::set_list_of;
 use pages::features::config_in;
 use pages::features::config_page;
 use pages::latency::latency_page;
@@ -247,4 +250,80 @@ fn answer_named(table: &mut [u64], k: Kind, c: Command, given: &[u8], answer: &m
         Entry::Unknown => refuse(unknown_status(c)),
         Entry::Here(slot) => answer_set(table, slot, k, c, given, answer),
     }
+}
+
+// Page 0Bh. Reading changes nothing.
+fn answer_aggregate(table: &[u64], c: Command, given: usize, answer: &mut [u8]) -> Reply
+    requires { ⌜ kindOf c ≡ Kind.ReadAggregate ⌝ }
+    ensures { λ r. ⌜ ((i : Item) → meaning i ≡ Nobody (viewed Kind.ReadAggregate c given (length (now (answer .entry))) (aggregateOf c)) → Answered (now (table .entry)) i (now (answer .entry)) r (now (table .entry)) (now (answer .exit))) ⌝ }
+{
+    if legal(table) {
+        let status = view_status(Kind::ReadAggregate, c, given, answer.len());
+        let page = aggregate_of(table);
+        let from = offset_of(c) as usize;
+        let n = needs_out(Kind::ReadAggregate, c) as usize;
+        replies::hand_out(status, 0, &page, from, n, answer)
+    } else {
+        refuse(0x07C3)
+    }
+}
+
+// Identify 04h.
+fn answer_identify(table: &[u64], c: Command, given: usize, answer: &mut [u8]) -> Reply
+    ensures { λ r. ⌜ ((i : Item) → meaning i ≡ Nobody (viewed Kind.Identify c given (length (now (answer .entry))) (setListOf c)) → Answered (now (table .entry)) i (now (answer .entry)) r (now (table .entry)) (now (answer .exit))) ⌝ }
+{
+    if legal(table) {
+        let status = view_status(Kind::Identify, c, given, answer.len());
+        let page = set_list_of(table, asked_by(c));
+        replies::hand_out(status, 0, &page, 0, 4096, answer)
+    } else {
+        refuse(0x07C3)
+    }
+}
+
+fn is_named(k: Kind) -> bool
+    ensures { λ r. ⌜ r ≡ isNamed k ⌝ }
+{
+    match k {
+        Kind::SetConfig => true,
+        Kind::SetWindow => true,
+        Kind::GetConfig => true,
+        Kind::GetWindow => true,
+        Kind::ReadLatency => true,
+        Kind::ReadAggregate => false,
+        Kind::Identify => false,
+    }
+}
+
+// Any command: its 64 bytes, its data in, and the buffer for its answer.
+pub fn command(table: &mut [u64], bytes: &[u8], given: &[u8], answer: &mut [u8]) -> Reply
+    ensures { λ r. ⌜ Answered (now (table .entry)) (Item.command (now (bytes .entry)) (now (given .entry)) (length (now (answer .entry)))) (now (answer .entry)) r (now (table .exit)) (now (answer .exit)) ⌝ }
+{
+    let c = command_in(bytes);
+    let k = kind_of(c);
+    if is_named(k) {
+        answer_named(table, k, c, given, answer)
+    } else if is_log(c) {
+        answer_aggregate(table, c, given.len(), answer)
+    } else {
+        answer_identify(table, c, given.len(), answer)
+    }
+}
+
+// The same, handing back that part of the answer buffer which was written.
+pub fn command_part<'a>(
+    table: &mut [u64],
+    bytes: &[u8],
+    given: &[u8],
+    answer: &'a mut [u8],
+    status: &mut u16,
+    dword: &mut u32,
+) -> &'a mut [u8]
+    ensures { λ r. ⌜ Handed (now (table .entry)) (Item.command (now (bytes .entry)) (now (given .entry)) (length (now (answer .entry)))) (now (table .exit)) (now (status .exit)) (now (dword .exit)) (now r) ⌝ }
+{
+    let x = command(table, bytes, given, answer);
+    *status = x.status;
+    *dword = x.dword;
+    let n = x.len;
+    &mut answer[0..n]
 }

@@ -4,3 +4,4 @@ pub mod commands;
 pub mod media;
 pub mod setting;
 mod status;
+mod views;

@@ -1,0 +1,63 @@
+// The pages of the whole card: 0Bh and Identify, from the table.
+ghost use mathlib.Core.Path.{_≡_};
+ghost use mathlib.Core.List.{map};
+ghost use Prim.Native.Nat.{_+_, _*_, _≤_};
+ghost use lib.ListN.{length};
+ghost use Rattle.table.specs.Layout.{recordOf};
+ghost use Rattle.table.specs.Table.{count, rowStart, row, recordsOf, Legal};
+ghost use Rattle.pages.specs.Aggregate.{aggregatePage};
+ghost use Rattle.pages.specs.Identify.{firstEntry, entrySize, identifyPage, Shows};
+ghost use Rattle.card.specs.Commanded.{listedIds};
+ghost use Rattle.card.specs.Views.{attributesOf, ShowsAll};
+use pages::aggregate::aggregate_page;
+use pages::identify::put_count;
+use pages::identify::show;
+use record::Slot;
+use table::count_of;
+use table::identifiers;
+use table::listed_word;
+use table::load;
+
+pub fn aggregate_of(table: &[u64]) -> [u8; 72]
+    requires { ⌜ Legal (now table) ⌝ }
+    ensures { λ p. ⌜ p ≡ aggregatePage (listedIds (recordsOf (now (table .entry)))) ⌝ }
+{
+    let n = count_of(table);
+    let ids = identifiers(table);
+    let word = listed_word(table);
+    aggregate_page(&ids[0..n], word)
+}
+
+// The set of one slot, if it is to be shown; the answer is the next place.
+fn show_slot(page: &mut [u8], to: usize, table: &[u64], i: usize, from: u16) -> usize
+    requires { ⌜ (to + entrySize ≤ length (now page)) × (rowStart (i + 1) ≤ length (now table)) ⌝ }
+    ensures { λ r. ⌜ Shows from (recordOf (row (now (table .entry)) i) .attributes) (now (page .entry)) to (now (page .exit)) r ⌝ }
+{
+    let r = load(table, Slot(i));
+    let a = r.attributes;
+    show(page, to, a, from)
+}
+
+fn show_all(page: &mut [u8], table: &[u64], from: u16) -> usize
+    requires { ⌜ Legal (now table) × (firstEntry + entrySize * count (now table) ≤ length (now page)) ⌝ }
+    ensures { λ r. ⌜ ShowsAll from (attributesOf (recordsOf (now (table .entry)))) (now (page .entry)) (now (page .exit)) r ⌝ }
+{
+    let n = count_of(table);
+    let mut to = 128;
+    let mut i = 0;
+    while i < n {
+        to = show_slot(page, to, table, i, from);
+        i += 1;
+    }
+    to
+}
+
+pub fn set_list_of(table: &[u64], from: u16) -> [u8; 4096]
+    requires { ⌜ Legal (now table) ⌝ }
+    ensures { λ p. ⌜ p ≡ identifyPage from (attributesOf (recordsOf (now (table .entry)))) ⌝ }
+{
+    let mut p = [0u8; 4096];
+    let end = show_all(&mut p, table, from);
+    put_count(&mut p, end);
+    p
+}
