@@ -4,3 +4,4 @@ pub mod Meanings
 pub mod Card
 pub mod Words
 pub mod Media
+pub mod Demands
