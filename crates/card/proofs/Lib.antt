@@ -4,3 +4,5 @@ pub mod Slots
 pub mod Frame
 pub mod Events
 pub mod Kept
+pub mod History
+pub mod OnWords

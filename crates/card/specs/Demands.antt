@@ -113,8 +113,8 @@ abbrev pub Listed : Type 0
 Listed = (c : Card) (items : List Item) → map idOf (keep (λ r. r .notes .listed) (run c items .sets)) ≡ pendingIds c items
 
 -- the same of the identifiers that page 0Bh is made of
-abbrev pub Picked : Type 0
-Picked = (c : Card) (items : List Item) → picked (map idOf (run c items .sets)) (listedMarks (run c items .sets)) ≡ pendingIds c items
+abbrev pub PickedIds : Type 0
+PickedIds = (c : Card) (items : List Item) → picked (map idOf (run c items .sets)) (listedMarks (run c items .sets)) ≡ pendingIds c items
 
 -- "rising"
 abbrev pub Rising : ℕ → List ℕ → Type 0
