@@ -57,6 +57,9 @@ run-sets : (is : List Item) (c : Card) → run c is .sets ≡ map (passed (lengt
 run-sets [] c = sym (map-id (c .sets))
 run-sets (i ∷ is) c = run-sets is (after c i) ∙ rw (length-map, map-map)
 
+pub length-run : (is : List Item) (c : Card) → length (run c is .sets) ≡ length (c .sets)
+length-run is c = rw (run-sets is c, length-map)
+
 some-nth : (k : ℕ) (rs : List Record) (r : Record) → nth k rs ≡ some r → 1 ≤ length rs
 some-nth k [] r e = absurd (let z : _≡_ {A = ℕ} 0 1 = cc in omega arith)
 some-nth k (x ∷ rs) r e = omega arith
@@ -139,6 +142,12 @@ since true false false false m = refl
 since false true a q m = refl
 since false false a q m = refl
 
+pending-step : (i : Item) (is : List Item) (r : Record) → pending (ruled i r) is ≡ pending r (i ∷ is)
+pending-step i is r =
+    let a = r .attributes in
+    let x = effectOn i a (r .state) in
+    since (r .notes .listed) (x .clears) (raises i a (r .state)) (noneCleared a (x .state) is) (raised a (x .state) is)
+
 at-once : (l : Bool) → l ≡ l && true || false
 at-once true = refl
 at-once false = refl
@@ -147,13 +156,7 @@ listed-own : (n : ℕ) (is : List Item) (r : Record) → passed n is r .notes .l
 listed-own n [] r = at-once (r .notes .listed)
 listed-own n (i ∷ is) r =
     ⊎-elim
-    (λ e. let K = keep (concerns n (idOf r)) is in
-    let x = effectOn i (r .attributes) (r .state) in
-    cc (
-      touched-own n i r e,
-      listed-own n is (ruled i r),
-      since (r .notes .listed) (x .clears) (raises i (r .attributes) (r .state)) (noneCleared (r .attributes) (x .state) K) (raised (r .attributes) (x .state) K),
-    ))
+    (λ e. cc (touched-own n i r e, listed-own n is (ruled i r), pending-step i (keep (concerns n (idOf r)) is) r))
     (λ e. cc (touched-not n i r e, listed-own n is r))
     (bool-cases (concerns n (idOf r) i))
 

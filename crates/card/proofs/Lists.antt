@@ -3,10 +3,13 @@ use mathlib.Core.Path.{_≡_, refl, sym, ap, _∙_}
 use mathlib.Core.List.{List, [], _∷_, _++_, map}
 use mathlib.Core.Option.{Option, none, some, Option·map}
 use mathlib.Core.Bool.{Bool, true, false}
+use mathlib.Core.Logic.{_⊎_, inl, inr}
 use Prim.Native.Nat.{ℕ, zero, suc, _≤_}
 use native.Mathlib.Omega.{arith}
-use lib.ListN.{length}
+use lib.ListN.{length, set}
+use lib.Seq.{sets, set-set}
 use Rattle.octets.specs.Choice.{if_then_else_}
+use Rattle.octets.proofs.Runs.{set-sets}
 use Rattle.replies.specs.Status.{Line, line, firstOf}
 use Rattle.card.specs.Lists.{keep, nth, first}
 
@@ -73,3 +76,12 @@ pub last-row :
 last-row [] true d m h e = rw e (if-same d 0)
 last-row [] false d m h e = rw (h refl)
 last-row (l ∷ ls) b d m h e = if-zero (l .holds) (l .number) _ _ (last-row ls b d m h) e
+
+-- ---- a run of words stored over one that is as long
+
+pub sets-over : (us vs l : List ℕ) (b : ℕ) → length us ≡ length vs → sets (sets l b us) b vs ≡ sets l b vs
+sets-over [] [] l b e = refl
+sets-over [] (v ∷ vs) l b e = absurd (omega arith)
+sets-over (u ∷ us) [] l b e = absurd (omega arith)
+sets-over (u ∷ us) (v ∷ vs) l b e =
+    rw (← set-sets us (set l b u) (suc b) b v (inl (omega arith)), set-set l b u v) (sets-over us vs (set l b v) (suc b) (omega arith))

@@ -14,7 +14,7 @@ use Rattle.record.specs.declared.Record.{Record}
 use Rattle.record.specs.Events.{anyEnabled}
 use Rattle.replies.specs.Numbers.{badTable}
 use Rattle.replies.specs.Answers.{Answer, refused}
-use Rattle.table.specs.Table.{idOf, legalSets, legalTable, listedMarks}
+use Rattle.table.specs.Table.{idOf, legalSets, legalTable, written, listedMarks}
 use Rattle.pages.specs.Aggregate.{picked}
 use Rattle.card.specs.Lists.{nth, keep, beside, join}
 use Rattle.card.specs.Items.{Card, Item, All, Meaning, Everybody}
@@ -160,10 +160,11 @@ abbrev pub traceWords : List ℕ → List Item → List Answer
 traceWords ws [] = []
 traceWords ws (i ∷ is) = stepWords ws i .answer ∷ traceWords (stepWords ws i .table) is
 
--- a legal table stays legal, and holds the sets of the card's run
+-- a legal table stays legal, holds the sets of the card's run, and has no other word changed
 pub record RanWords (ws : List ℕ) (items : List Item) : Type 0 where
   pub legal : legalTable (runWords ws items) ≡ true
   pub card : cardOf (runWords ws items) ≡ run (cardOf ws) items
+  pub words : runWords ws items ≡ written ws (run (cardOf ws) items .sets)
 
 abbrev pub WordsRun : Type 0
 WordsRun = (ws : List ℕ) (items : List Item) → legalTable ws ≡ true → RanWords ws items
@@ -171,3 +172,20 @@ WordsRun = (ws : List ℕ) (items : List Item) → legalTable ws ≡ true → Ra
 -- and the answers are the card's
 abbrev pub WordsTrace : Type 0
 WordsTrace = (ws : List ℕ) (items : List Item) → legalTable ws ≡ true → traceWords ws items ≡ trace (cardOf ws) items
+
+-- So on the words too, "two neighbouring items that name different sets may change places": not one word changes with them.
+pub record SwappedWords (ws : List ℕ) (before : List Item) (i j : Item) (later : List Item) : Type 0 where
+  pub same-words : runWords ws (before ++ i ∷ j ∷ later) ≡ runWords ws (before ++ j ∷ i ∷ later)
+  pub one-way :
+      traceWords ws (before ++ i ∷ j ∷ later)
+      ≡ traceWords ws before ++ stepWords (runWords ws before) i .answer ∷ stepWords (runWords ws before) j .answer
+      ∷ traceWords (runWords ws (before ++ i ∷ j ∷ [])) later
+  pub other-way :
+      traceWords ws (before ++ j ∷ i ∷ later)
+      ≡ traceWords ws before ++ stepWords (runWords ws before) j .answer ∷ stepWords (runWords ws before) i .answer
+      ∷ traceWords (runWords ws (before ++ i ∷ j ∷ [])) later
+
+abbrev pub WordsSwap : Type 0
+WordsSwap =
+    (ws : List ℕ) (before : List Item) (i j : Item) (later : List Item) (a b : ℕ) → legalTable ws ≡ true → names a i ≡ true
+    → names b j ≡ true → (a ≡ b → ⊥) → SwappedWords ws before i j later
