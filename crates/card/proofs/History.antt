@@ -1,6 +1,6 @@
 -- Demand 3. Of the items' meanings nothing is used but their shape.
 use mathlib.Core.Path.{_≡_, refl, sym, ap, _∙_}
-use mathlib.Core.Bool.{Bool, true, false, not, _&&_, _||_}
+use mathlib.Core.Bool.{Bool, true, false, not, _&&_, _||_, or-false}
 use mathlib.Core.List.{List, [], _∷_, _++_, map, map-map, append-nil}
 use mathlib.Core.Option.{Option, none, some, Option·map}
 use mathlib.Core.Logic.{_⊎_, inl, inr, ⊎-elim}
@@ -15,13 +15,27 @@ use Rattle.replies.specs.Answers.{Answer, granted, refused}
 use Rattle.table.specs.Table.{idOf, legalSets, listedMarks}
 use Rattle.pages.specs.Aggregate.{picked}
 use Rattle.card.specs.Lists.{nth, first, keep, beside, join}
-use Rattle.card.specs.Items.{Card, Item, All, Meaning, Everybody}
+use Rattle.card.specs.Items.{Card, Item, All, Meaning, Nobody, Everybody, The}
 use Rattle.card.specs.Meanings.{meaning}
-use Rattle.card.specs.Card.{statusAll, effectOn, ruled, has, names, concerns, touched, after, answer, step, run, trace}
-use Rattle.card.specs.Demands.{alone, own, OwnRecord, lived, ByRules, OwnAnswers, Joined, raises, noneCleared, raised, pending, pendingIds, Listed, PickedIds, Rising, InOrder, Swapped, Swap, SwappedWithin, SwapWithin}
-use Rattle.card.proofs.Lists.{if-ap, if-cons, map-id, map-same, map-same-if, nth-map, keep-map, first-map, first-fixed}
+use Rattle.card.specs.Card.{statusAll, statusBy, statusOf, effectOn, ruled, has, names, namesBy, concerns, concernsBy, touched, after, answer, step, run, trace}
+use Rattle.card.specs.Demands.{alone, everyBy, every, owns, own, OwnRecord, lived, ByRules, OwnAnswers, Joined, raises, noneCleared, raised, pending, pendingIds, Listed, PickedIds, Rising, InOrder, Swapped, Swap, SwappedWithin, SwapWithin}
+use Rattle.card.proofs.Lists.{if-ap, if-cons, map-id, map-same, map-same-if, nth-map, keep-same, keep-map, first-map, first-fixed}
 use Rattle.card.proofs.Shapes.{bool-cases, named, unnamed, answers, fewer-all, fewer, touched-own, touched-not, keeps}
 use Rattle.card.proofs.Slots.{ordered, found}
+
+-- ---- the items that concern a set are those that name it and, of those that go to every set, those that are carried out
+
+owned-by : (m : Meaning) (c : Card) (id : ℕ) → namesBy m id || everyBy m && eqb (statusBy m c) 0 ≡ concernsBy m (length (c .sets)) id
+owned-by (Nobody v) c id = refl
+owned-by (Everybody a) c id = refl
+owned-by (The a o) c id = or-false (eqb a id)
+
+owned : (c : Card) (id : ℕ) (i : Item) → owns c id i ≡ concerns (length (c .sets)) id i
+unfolding names every statusOf concerns
+owned c id i = owned-by (meaning i) c id
+
+own-is : (c : Card) (r : Record) (is : List Item) → own c r is ≡ keep (concerns (length (c .sets)) (idOf r)) is
+own-is c r is = keep-same _ _ (owned c (idOf r)) is
 
 -- ---- one set
 
@@ -66,10 +80,10 @@ some-nth k (x ∷ rs) r e = omega arith
 
 pub own-record : OwnRecord
 own-record c is k r e =
-    rw (run-sets is c, nth-map, e, run-sets (own c r is) (alone r)) (ap some (passed-own (length (c .sets)) (some-nth k (c .sets) r e) is r))
+    rw (own-is c r is, run-sets is c, nth-map, e, run-sets (keep (concerns (length (c .sets)) (idOf r)) is) (alone r)) (ap some (passed-own (length (c .sets)) (some-nth k (c .sets) r e) is r))
 
 pub by-rules : ByRules
-by-rules c is k r e = rw (run-sets is c, nth-map, e) (ap some (passed-lived (length (c .sets)) is r))
+by-rules c is k r e = rw (own-is c r is, run-sets is c, nth-map, e) (ap some (passed-lived (length (c .sets)) is r))
 
 -- ---- answers to the items that name a set
 
@@ -104,7 +118,7 @@ module _ (n : ℕ) (pos : 1 ≤ n) where
       (bool-cases (concerns n (idOf r) i))
 
 pub own-answers : OwnAnswers
-own-answers c is k r h e = answers-own (length (c .sets)) (some-nth k (c .sets) r e) is c (alone r) r refl (found 0 k (c .sets) r h e) refl
+own-answers c is k r h e = rw (own-is c r is) (answers-own (length (c .sets)) (some-nth k (c .sets) r e) is c (alone r) r refl (found 0 k (c .sets) r h e) refl)
 
 -- ---- data of the items that go to every set
 
@@ -127,7 +141,7 @@ joined c is i a m h =
     let s : statusAll a n ≡ 0 = rw (run-sets is c, length-map) at (carried i a m (run c is) h) in
     all-bytes i a m (run c is) _ (run-sets is c) (rw length-map s)
     ∙ rw map-map (ap join (map-same-if _ _ (c .sets) (λ l r.
-    rw (passed-own n l is r, ← append-nil (a .part (passed 1 (own c r is) r)))
+    rw (passed-own n l is r, ← own-is c r is, ← append-nil (a .part (passed 1 (own c r is) r)))
     (sym (all-bytes i a m (run (alone r) (own c r is)) _ (run-sets (own c r is) (alone r)) (fewer-all a n l s))))))
 
 -- ---- the listed sets
@@ -163,7 +177,7 @@ listed-own n (i ∷ is) r =
 pub listed : Listed
 listed c is =
     rw (run-sets is c)
-    (keep-map idOf (passed (length (c .sets)) is) (λ r. r .notes .listed) _ (passed-id _ is) (listed-own (length (c .sets)) is) (c .sets))
+    (keep-map idOf (passed (length (c .sets)) is) (λ r. r .notes .listed) _ (passed-id _ is) (λ r. listed-own (length (c .sets)) is r ∙ ap (pending r) (sym (own-is c r is))) (c .sets))
 
 pick-keep : (rs : List Record) → picked (map idOf rs) (listedMarks rs) ≡ map idOf (keep (λ r. r .notes .listed) rs)
 pick-keep [] = refl

@@ -46,6 +46,10 @@ nth-map f k [] = refl
 nth-map f zero (x ∷ xs) = refl
 nth-map f (suc k) (x ∷ xs) = nth-map f k xs
 
+pub keep-same : {A : Type 0} (p q : A → Bool) → ((x : A) → p x ≡ q x) → (xs : List A) → keep p xs ≡ keep q xs
+keep-same p q e [] = refl
+keep-same p q e (x ∷ xs) = rw (e x, keep-same p q e xs)
+
 pub keep-map : {A B : Type 0} (g : A → B) (f : A → A) (p q : A → Bool) → ((x : A) → g (f x) ≡ g x) → ((x : A) → p (f x) ≡ q x)
     → (xs : List A) → map g (keep p (map f xs)) ≡ map g (keep q xs)
 keep-map g f p q e h [] = refl

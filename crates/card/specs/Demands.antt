@@ -6,7 +6,7 @@ use mathlib.Core.Bool.{Bool, true, false, not, _&&_, _||_}
 use mathlib.Core.List.{List, [], _∷_, _++_, map}
 use mathlib.Core.Option.{Option, some}
 use Prim.Native.Nat.{ℕ, _<_}
-use lib.ListN.{length}
+use lib.Dec.{eqb}
 use Rattle.octets.specs.Choice.{if_then_else_}
 use Rattle.record.specs.declared.Attributes.{Attributes}
 use Rattle.record.specs.declared.State.{State}
@@ -17,9 +17,9 @@ use Rattle.replies.specs.Answers.{Answer, refused}
 use Rattle.table.specs.Table.{idOf, legalSets, legalTable, written, listedMarks}
 use Rattle.pages.specs.Aggregate.{picked}
 use Rattle.card.specs.Lists.{nth, keep, beside, join}
-use Rattle.card.specs.Items.{Card, Item, All, Meaning, Everybody}
+use Rattle.card.specs.Items.{Card, Item, All, Meaning, Nobody, Everybody, The}
 use Rattle.card.specs.Meanings.{meaning}
-use Rattle.card.specs.Card.{effectOn, ruled, statusOf, names, concerns, answer, step, run, trace}
+use Rattle.card.specs.Card.{effectOn, ruled, statusOf, names, answer, step, run, trace}
 use Rattle.card.specs.Words.{cardOf, Result, stepWords}
 
 -- ==== demand 1: "with success or with the one refusal that document 01 names for that input"
@@ -48,9 +48,20 @@ RefusedWords =
 abbrev pub alone : Record → Card
 alone r = record { sets = r ∷ [] }
 
--- "the items naming it and the ticks, in their order": those that concern it. A tick that is refused concerns no set.
+-- "the items naming it and the ticks, in their order". A tick goes to every set; a refused one to none.
+abbrev pub everyBy : Meaning → Bool
+everyBy (Nobody v) = false
+everyBy (Everybody a) = true
+everyBy (The named o) = false
+
+unfoldable pub every : Item → Bool
+every i = everyBy (meaning i)
+
+abbrev pub owns : Card → ℕ → Item → Bool
+owns c id i = names id i || every i && eqb (statusOf c i) 0
+
 abbrev pub own : Card → Record → List Item → List Item
-own c r items = keep (concerns (length (c .sets)) (idOf r)) items
+own c r items = keep (owns c (idOf r)) items
 
 -- its record
 abbrev pub OwnRecord : Type 0
