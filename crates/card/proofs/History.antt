@@ -18,20 +18,20 @@ use Rattle.card.specs.Lists.{nth, first, keep, beside, join}
 use Rattle.card.specs.Items.{Card, Item, All, Meaning, Nobody, Everybody, The}
 use Rattle.card.specs.Meanings.{meaning}
 use Rattle.card.specs.Card.{statusAll, statusBy, statusOf, effectOn, ruled, has, names, namesBy, concerns, concernsBy, touched, after, answer, step, run, trace}
-use Rattle.card.specs.Demands.{alone, everyBy, every, owns, own, OwnRecord, lived, ByRules, OwnAnswers, Joined, raises, noneCleared, raised, pending, pendingIds, Listed, PickedIds, Rising, InOrder, Swapped, Swap, SwappedWithin, SwapWithin}
+use Rattle.card.specs.Demands.{alone, toAllBy, toAll, owns, own, OwnRecord, lived, ByRules, OwnAnswers, Joined, raises, noneCleared, raised, pending, pendingIds, Listed, PickedIds, Rising, InOrder, Swapped, Swap, SwappedWithin, SwapWithin}
 use Rattle.card.proofs.Lists.{if-ap, if-cons, map-id, map-same, map-same-if, nth-map, keep-same, keep-map, first-map, first-fixed}
 use Rattle.card.proofs.Shapes.{bool-cases, named, unnamed, answers, fewer-all, fewer, touched-own, touched-not, keeps}
 use Rattle.card.proofs.Slots.{ordered, found}
 
 -- ---- the items that concern a set are those that name it and, of those that go to every set, those that are carried out
 
-owned-by : (m : Meaning) (c : Card) (id : ℕ) → namesBy m id || everyBy m && eqb (statusBy m c) 0 ≡ concernsBy m (length (c .sets)) id
+owned-by : (m : Meaning) (c : Card) (id : ℕ) → namesBy m id || toAllBy m && eqb (statusBy m c) 0 ≡ concernsBy m (length (c .sets)) id
 owned-by (Nobody v) c id = refl
 owned-by (Everybody a) c id = refl
 owned-by (The a o) c id = or-false (eqb a id)
 
 owned : (c : Card) (id : ℕ) (i : Item) → owns c id i ≡ concerns (length (c .sets)) id i
-unfolding names every statusOf concerns
+unfolding names toAll statusOf concerns
 owned c id i = owned-by (meaning i) c id
 
 own-is : (c : Card) (r : Record) (is : List Item) → own c r is ≡ keep (concerns (length (c .sets)) (idOf r)) is

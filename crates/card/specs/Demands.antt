@@ -48,17 +48,18 @@ RefusedWords =
 abbrev pub alone : Record → Card
 alone r = record { sets = r ∷ [] }
 
--- "the items naming it and the ticks, in their order". A tick goes to every set; a refused one to none.
-abbrev pub everyBy : Meaning → Bool
-everyBy (Nobody v) = false
-everyBy (Everybody a) = true
-everyBy (The named o) = false
+-- "the items naming it and the ticks, in their order". A tick goes to every set, unless it is refused; its status goes by the
+-- number of sets and not by what they hold, so that the starting card tells it.
+abbrev pub toAllBy : Meaning → Bool
+toAllBy (Nobody v) = false
+toAllBy (Everybody a) = true
+toAllBy (The named o) = false
 
-unfoldable pub every : Item → Bool
-every i = everyBy (meaning i)
+unfoldable pub toAll : Item → Bool
+toAll i = toAllBy (meaning i)
 
 abbrev pub owns : Card → ℕ → Item → Bool
-owns c id i = names id i || every i && eqb (statusOf c i) 0
+owns c id i = names id i || toAll i && eqb (statusOf c i) 0
 
 abbrev pub own : Card → Record → List Item → List Item
 own c r items = keep (owns c (idOf r)) items
