@@ -18,7 +18,7 @@ use Rattle.card.specs.Lists.{nth, first, keep, beside, join}
 use Rattle.card.specs.Items.{Card, Item, All, Meaning, Nobody, Everybody, The}
 use Rattle.card.specs.Meanings.{meaning}
 use Rattle.card.specs.Card.{statusAll, statusBy, statusOf, effectOn, ruled, has, names, namesBy, concerns, concernsBy, touched, after, answer, step, run, trace}
-use Rattle.card.specs.Demands.{alone, toAllBy, toAll, owns, own, OwnRecord, lived, ByRules, OwnAnswers, Joined, raises, noneCleared, raised, pending, pendingIds, Listed, PickedIds, Rising, InOrder, Swapped, Swap, SwappedWithin, SwapWithin}
+use Rattle.card.specs.Demands.{alone, toAllBy, toAll, owns, own, OwnRecord, lived, ByRules, OwnAnswers, Joined, raises, noneCleared, raised, pending, pendingIds, Listed, PickedIds, Aggregate, Rising, InOrder, Swapped, Swap, SwappedWithin, SwapWithin}
 use Rattle.card.proofs.Lists.{if-ap, if-cons, map-id, map-same, map-same-if, nth-map, keep-same, keep-map, first-map, first-fixed}
 use Rattle.card.proofs.Shapes.{bool-cases, named, unnamed, answers, fewer-all, fewer, touched-own, touched-not, keeps}
 use Rattle.card.proofs.Slots.{ordered, found}
@@ -185,6 +185,10 @@ pick-keep (r ∷ rs) = rw (pick-keep rs) (sym (if-ap (map idOf) (r .notes .liste
 
 pub picked-ids : PickedIds
 picked-ids c is = pick-keep (run c is .sets) ∙ listed c is
+
+pub aggregate : Aggregate
+unfolding answer statusOf
+aggregate c is i v page m d h = rw (m, rw m at h, d (run c is), picked-ids c is)
 
 lower : (p q : ℕ) (xs : List ℕ) → p ≤ q → Rising q xs → Rising p xs
 lower p q [] l h = tt

@@ -17,7 +17,7 @@ use Rattle.replies.specs.Answers.{Answer, refused}
 use Rattle.table.specs.Table.{idOf, legalSets, legalTable, written, listedMarks}
 use Rattle.pages.specs.Aggregate.{picked}
 use Rattle.card.specs.Lists.{nth, keep, beside, join}
-use Rattle.card.specs.Items.{Card, Item, All, Meaning, Nobody, Everybody, The}
+use Rattle.card.specs.Items.{Card, Item, All, View, Meaning, Nobody, Everybody, The}
 use Rattle.card.specs.Meanings.{meaning}
 use Rattle.card.specs.Card.{effectOn, ruled, statusOf, names, answer, step, run, trace}
 use Rattle.card.specs.Words.{cardOf, Result, stepWords}
@@ -127,6 +127,13 @@ Listed = (c : Card) (items : List Item) → map idOf (keep (λ r. r .notes .list
 -- the same of the identifiers that page 0Bh is made of
 abbrev pub PickedIds : Type 0
 PickedIds = (c : Card) (items : List Item) → picked (map idOf (run c items .sets)) (listedMarks (run c items .sets)) ≡ pendingIds c items
+
+-- "The aggregate log then lists": any item that answers with a page of those identifiers lists these sets
+abbrev pub Aggregate : Type 0
+Aggregate =
+    (c : Card) (items : List Item) (i : Item) (v : View) (page : List ℕ → Answer) → meaning i ≡ Nobody v
+    → ((d : Card) → v .done d ≡ page (picked (map idOf (d .sets)) (listedMarks (d .sets)))) → statusOf (run c items) i ≡ 0
+    → answer (run c items) i ≡ page (pendingIds c items)
 
 -- "rising"
 abbrev pub Rising : ℕ → List ℕ → Type 0
