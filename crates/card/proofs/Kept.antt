@@ -12,11 +12,18 @@ use Rattle.record.specs.declared.State.{State}
 use Rattle.record.specs.declared.Record.{Record}
 use Rattle.record.specs.Legal.{legalAttributes, legalState, legalRecord, KeepsState}
 use Rattle.rules.specs.Rules as rules
-use Rattle.rules.proofs.Keeps.{keeps-record, read-event-keeps, write-event-keeps, excursion-keeps, tick-keeps}
+use Rattle.rules.proofs.Keeps.{keeps-record, read-event-keeps, write-event-keeps, excursion-keeps, tick-keeps, configure-keeps, selecting-keeps}
 use Rattle.table.specs.Table.{idOf, recordsOf, legalSets, legalTable, Legal}
 use Rattle.table.proofs.Known.{legal-known, sets-known}
 use Rattle.table.proofs.Written.{legal-sized, written-back, written-legal}
-use Rattle.card.specs.Items.{Card, Item, reads, writes, excursion, tick, Meaning, Nobody, Everybody, The}
+use Rattle.card.specs.Items.{Card, Item, reads, writes, excursion, tick, command, Meaning, Nobody, Everybody, The}
+use Rattle.octets.specs.Choice.{if_then_else_}
+use Rattle.pages.specs.Features.{configIn}
+use Rattle.card.specs.declared.commands.Command.{Command}
+use Rattle.card.specs.declared.commands.Kind.{Kind}
+use Rattle.card.specs.declared.commands.Kind.the-variants.{SetConfig, SetWindow, GetConfig, GetWindow, ReadLatency, ReadAggregate, Identify}
+use Rattle.card.specs.Commands.{enable, windowCause, retain, kindOf, commandIn}
+use Rattle.card.specs.Commanded.{meaningBy, commandMeaning}
 use Rattle.card.specs.Meanings.{meaning}
 use Rattle.card.specs.Card.{statusAt, effectBy, effectOn, ruled, concerns, touched, after, step}
 use Rattle.card.specs.Words.{cardOf, stepWords}
@@ -31,12 +38,30 @@ Sound (Everybody e) = KeepsState (e .rule)
 Sound (The id o) =
     (a : Attributes) (s : State) → statusAt o a s ≡ 0 → legalAttributes a ≡ true → legalState a s ≡ true → legalState a (o .rule a s .state) ≡ true
 
+by-retain : (b : Bool) (a : Attributes) (s : State) → legalState a s ≡ true → legalState a ((if b then rules.still s else rules.clearingRead s) .state) ≡ true
+by-retain true a s l = l
+by-retain false a s l = l
+
+by-kind : (k : Kind) (c : Command) (given : List ℕ) (room : ℕ) → Sound (meaningBy k c given room)
+by-kind SetConfig c given room = λ a s z. configure-keeps (enable c) (configIn given) a s
+by-kind SetWindow c given room = λ a s z. selecting-keeps (windowCause c) a s
+by-kind GetConfig c given room = λ a s z h l. l
+by-kind GetWindow c given room = λ a s z h l. l
+by-kind ReadLatency c given room = λ a s z h l. by-retain (retain c) a s l
+by-kind ReadAggregate c given room = tt
+by-kind Identify c given room = tt
+
+command-sound : (bytes given : List ℕ) (room : ℕ) → Sound (commandMeaning bytes given room)
+unfolding commandMeaning
+command-sound bytes given room = by-kind (kindOf (commandIn bytes)) (commandIn bytes) given room
+
 sound : (i : Item) → Sound (meaning i)
 unfolding meaning
 sound (reads id k) = λ a s z. read-event-keeps k a s
 sound (writes id k) = λ a s z. write-event-keeps k a s
 sound (excursion id) = λ a s z. excursion-keeps a s
 sound (tick t) = tick-keeps t
+sound (command bytes given room) = command-sound bytes given room
 
 effect-kept : (m : Meaning) → Sound m → KeepsState (effectBy m)
 effect-kept (Nobody v) k a s h l = l

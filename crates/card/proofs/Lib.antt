@@ -6,3 +6,5 @@ pub mod Events
 pub mod Kept
 pub mod History
 pub mod OnWords
+pub mod NewSets
+pub mod Stacked

@@ -1,7 +1,11 @@
 pub mod Lists
 pub mod Items
+pub mod Commands
+pub mod StatusTable
+pub mod Commanded
 pub mod Meanings
 pub mod Card
 pub mod Words
 pub mod Media
 pub mod Demands
+pub mod SetUp

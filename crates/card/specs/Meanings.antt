@@ -10,7 +10,8 @@ use Rattle.replies.specs.Numbers.{unknownSet, tickTooLong}
 use Rattle.replies.specs.Status.{line}
 use Rattle.replies.specs.Answers.{granted}
 use Rattle.rules.specs.Rules as rules
-use Rattle.card.specs.Items.{Item, reads, writes, excursion, tick, One, All, Meaning, Everybody, The}
+use Rattle.card.specs.Commanded.{commandMeaning}
+use Rattle.card.specs.Items.{Item, reads, writes, excursion, tick, command, One, All, Meaning, Everybody, The}
 
 -- 01: "Events: bad table 07C3h; unknown set 07C0h"
 abbrev pub event : (Attributes → State → Effect) → One
@@ -26,3 +27,4 @@ meaning (reads id k) = The id (event (rules.readEvent k))
 meaning (writes id k) = The id (event (rules.writeEvent k))
 meaning (excursion id) = The id (event (λ a s. rules.excursionEvent s))
 meaning (tick t) = Everybody (ticked t)
+meaning (command bytes given room) = commandMeaning bytes given room

@@ -4,7 +4,8 @@ use mathlib.Core.List.{List}
 use Prim.Native.Nat.{ℕ}
 use Rattle.octets.specs.Choice.{if_then_else_}
 use Rattle.replies.specs.Numbers.{badTable}
-use Rattle.replies.specs.Answers.{Answer, refused}
+use Rattle.replies.specs.declared.Reply.{Reply}
+use Rattle.replies.specs.Answers.{Answer, refused, Replied}
 use Rattle.table.specs.Table.{recordsOf, legalTable, written}
 use Rattle.card.specs.Items.{Card, Item}
 use Rattle.card.specs.Card.{step}
@@ -30,3 +31,8 @@ stepWords ws i =
 pub record Stepped (ws : List ℕ) (i : Item) (after : List ℕ) (number : ℕ) : Type 0 where
   pub table : after ≡ stepWords ws i .table
   pub status : number ≡ stepWords ws i .answer .status
+
+-- What a command promises: the words that it leaves, its reply, and every byte of the answer buffer.
+pub record Answered (ws : List ℕ) (i : Item) (before : List ℕ) (r : Reply) (words buffer : List ℕ) : Type 0 where
+  pub table : words ≡ stepWords ws i .table
+  pub reply : Replied (stepWords ws i .answer) before r buffer

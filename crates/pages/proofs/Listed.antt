@@ -16,7 +16,8 @@ use Rattle.octets.specs.Octets.{bytesOf}
 use Rattle.octets.specs.Pages.{puts, tidy, Fit, readings, values}
 use Rattle.octets.proofs.Pages.{placed, read-back}
 use Rattle.record.specs.Events.{bit, wordOf}
-use Rattle.pages.specs.Aggregate.{mostSets, listedIf, picked, listedBy, aggregateSize, entriesFrom, listFields, aggregatePage}
+use Rattle.record.specs.Legal.{maxSets}
+use Rattle.pages.specs.Aggregate.{listedIf, picked, listedBy, aggregateSize, entriesFrom, listFields, aggregatePage}
 
 -- a word without its lowest one
 unfoldable cleared : ℕ → ℕ
@@ -132,7 +133,7 @@ pub record Entered (ids page : List ℕ) (left next to : ℕ) : Type 0 where
   pub fewer : 1 + length (listedBy next ids) ≡ length (listedBy left ids)
   pub puts-on : puts (sets page to (bytesOf 2 (getD ids (trailingZeros 64 left) 0))) (entriesFrom (to + 2) (listedBy next ids)) ≡ puts page (entriesFrom to (listedBy left ids))
 
-pub entry-turn : (ids page : List ℕ) (left next to : ℕ) → 0 < left → left < 2 ^ length ids → length ids ≤ mostSets → next ≡ bitAnd left (left - 1)
+pub entry-turn : (ids page : List ℕ) (left next to : ℕ) → 0 < left → left < 2 ^ length ids → length ids ≤ maxSets → next ≡ bitAnd left (left - 1)
     → Entered ids page left next to
 entry-turn ids page left next to p h few e =
     let r = lowest ids 64 left p h (omega arith) in
@@ -171,7 +172,7 @@ entries-fit [] at f = tt
 entries-fit (id ∷ ids) at f = (f 0, entries-fit ids (at + 2) (λ i. f (suc i)))
 
 -- page 0Bh read at its fields gives back the number of entries and the entries
-pub aggregate-back : (ids : List ℕ) → length ids ≤ mostSets → ((i : ℕ) → getD ids i 0 < 2 ^ 16)
+pub aggregate-back : (ids : List ℕ) → length ids ≤ maxSets → ((i : ℕ) → getD ids i 0 < 2 ^ 16)
     → readings (aggregatePage ids) (listFields ids) ≡ values (listFields ids)
 unfolding aggregatePage
 aggregate-back ids few f =

@@ -7,10 +7,6 @@ use lib.ListN.{length}
 use Rattle.octets.specs.Choice.{if_then_else_}
 use Rattle.octets.specs.Pages.{Field, field, place}
 
--- "Up to 31 sets."
-abbrev pub mostSets : ℕ
-mostSets = 31
-
 -- ---- the listed sets
 
 -- an identifier before others, where its set is listed

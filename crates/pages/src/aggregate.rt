@@ -7,7 +7,8 @@ ghost use lib.ListN.{length, getD};
 ghost use lib.Seq.{sets};
 ghost use Rattle.octets.specs.Octets.{bytesOf};
 ghost use Rattle.octets.specs.Pages.{puts};
-ghost use Rattle.pages.specs.Aggregate.{mostSets, listedBy, entriesFrom, aggregatePage};
+ghost use Rattle.record.specs.Legal.{maxSets};
+ghost use Rattle.pages.specs.Aggregate.{listedBy, entriesFrom, aggregatePage};
 
 // Casts of a parameter ask for no proof, those of a result do.
 fn wide(n: u32) -> u64
@@ -46,7 +47,7 @@ fn put_lowest(page: &mut [u8], to: usize, ids: &[u64], left: u64)
 
 // An entry of two bytes for each one of the word, from byte 8.
 fn list_entries(page: &mut [u8], ids: &[u64], word: u64)
-    requires { ⌜ (word < 2 ^ length (now ids)) × (length (now ids) ≤ mostSets) × (8 + 2 * length (now ids) ≤ length (now page)) ⌝ }
+    requires { ⌜ (word < 2 ^ length (now ids)) × (length (now ids) ≤ maxSets) × (8 + 2 * length (now ids) ≤ length (now page)) ⌝ }
     ensures { λ _. ⌜ now (page .exit) ≡ puts (now (page .entry)) (entriesFrom 8 (listedBy word (now (ids .entry)))) ⌝ }
 {
     let mut left = word;
@@ -59,7 +60,7 @@ fn list_entries(page: &mut [u8], ids: &[u64], word: u64)
 }
 
 pub fn aggregate_page(ids: &[u64], word: u64) -> [u8; 72]
-    requires { ⌜ (length (now ids) ≤ mostSets) × (word < 2 ^ length (now ids)) ⌝ }
+    requires { ⌜ (length (now ids) ≤ maxSets) × (word < 2 ^ length (now ids)) ⌝ }
     ensures { λ r. ⌜ r ≡ aggregatePage (listedBy word (now (ids .entry))) ⌝ }
 {
     let mut p = [0u8; 72];

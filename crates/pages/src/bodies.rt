@@ -2,27 +2,14 @@
 ghost use mathlib.Core.Path.{_≡_};
 ghost use Prim.Native.Nat.{_+_, _≤_};
 ghost use lib.ListN.{length};
-ghost use Rattle.pages.specs.Numbers.{numberAt};
 ghost use Rattle.pages.specs.Bodies.{bodySize, body, capacityIn, attributesIn};
 use crate::filled::filled_84;
+use crate::read::short;
+use crate::read::word;
 use record::Attributes;
 use record::Capacity;
 use record::Group;
 use record::SetId;
-
-fn short(bytes: &[u8], at: usize) -> u16
-    requires { ⌜ at + 2 ≤ length (now bytes) ⌝ }
-    ensures { λ r. ⌜ r ≡ numberAt (now (bytes .entry)) at 2 ⌝ }
-{
-    (octets::get(bytes, at, 2) % 0x10000) as u16
-}
-
-fn word(bytes: &[u8], at: usize) -> u32
-    requires { ⌜ at + 4 ≤ length (now bytes) ⌝ }
-    ensures { λ r. ⌜ r ≡ numberAt (now (bytes .entry)) at 4 ⌝ }
-{
-    (octets::get(bytes, at, 4) % 0x100000000) as u32
-}
 
 fn capacity_in(bytes: &[u8], at: usize) -> Capacity
     requires { ⌜ at + 16 ≤ length (now bytes) ⌝ }

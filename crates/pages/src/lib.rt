@@ -5,3 +5,4 @@ pub mod features;
 mod filled;
 pub mod identify;
 pub mod latency;
+pub mod read;

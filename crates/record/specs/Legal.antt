@@ -15,6 +15,10 @@ use Rattle.record.specs.Record.{need}
 use Rattle.record.specs.Window.{byWindow}
 use Rattle.record.specs.Events.{settled}
 
+-- "Up to 31 sets."
+abbrev pub maxSets : ℕ
+maxSets = 31
+
 -- "identifier 1..65535; endurance group 1..65535"
 abbrev pub numberMaximum : ℕ
 numberMaximum = 65535

@@ -10,6 +10,8 @@ use crate::State;
 use crate::Window;
 use crate::quantities::need_of;
 
+pub const MAX_SETS: usize = 31;
+
 const NUMBER_MAXIMUM: u64 = 65535;
 
 // A field of 4 bytes holds no more: the type says it again.

@@ -1,11 +1,11 @@
 -- What a status of 0 tells: no row of the table holds.
 use mathlib.Core.Path.{_≡_, refl}
 use mathlib.Core.Bool.{Bool, true, false}
-use mathlib.Core.List.{List, [], _∷_}
+use mathlib.Core.List.{List, [], _∷_, _++_}
 use Prim.Native.Nat.{ℕ, _<_}
 use native.Mathlib.Omega.{arith}
-use borrow.Author.Tests.{ltb-true}
-use lib.Dec.{ltb}
+use borrow.Author.Tests.{ltb-true, ne-eqb}
+use lib.Dec.{ltb, eqb}
 use Rattle.octets.specs.Choice.{if_then_else_}
 use Rattle.octets.proofs.Tests.{both}
 use Rattle.replies.specs.Status.{Line, firstOf, numbered, NoneHolds}
@@ -25,3 +25,16 @@ passed (l ∷ ls) k h =
 pub none-held : (ls : List Line) → NoneHolds ls → firstOf ls ≡ 0
 none-held [] h = refl
 none-held (l ∷ ls) h = rw (h .0) (none-held ls (h .1))
+
+-- one table above another
+by-row :
+    (b : Bool) (n x y z : ℕ) → 0 < n → y ≡ (if eqb x 0 then z else x)
+    → (if b then n else y) ≡ (if eqb (if b then n else x) 0 then z else (if b then n else x))
+by-row true n x y z p e = rw (ne-eqb n 0 (λ q. omega arith))
+by-row false n x y z p e = e
+
+pub first-append : (xs ys : List Line) → numbered xs ≡ true → firstOf (xs ++ ys) ≡ (if eqb (firstOf xs) 0 then firstOf ys else firstOf xs)
+first-append [] ys k = refl
+first-append (l ∷ ls) ys k =
+    let b = both (ltb 0 (l .number)) _ k in
+    by-row (l .holds) (l .number) (firstOf ls) (firstOf (ls ++ ys)) (firstOf ys) (ltb-true 0 (l .number) (b .0)) (first-append ls ys (b .1))

@@ -69,7 +69,7 @@ fn effect_of(state: State, happened: Events, clears: bool) -> Effect
     }
 }
 
-fn keep_still(s: State) -> Effect
+pub fn keep_still(s: State) -> Effect
     ensures { λ r. ⌜ r ≡ still s ⌝ }
 {
     effect_of(s, no_events(), false)
@@ -106,7 +106,7 @@ pub fn set_mode(s: State, on: bool, c: Config) -> Effect
     keep_still(t)
 }
 
-fn too_early(a: Attributes, s: State, c: Cause) -> bool
+pub fn too_early(a: Attributes, s: State, c: Cause) -> bool
     ensures { λ r. ⌜ r ≡ tooEarly c a s ⌝ }
 {
     let held = s.window;
@@ -129,7 +129,7 @@ fn enter(a: Attributes, s: State, w: Window) -> Effect
     }
 }
 
-fn go_to_selected(a: Attributes, s: State, c: Cause) -> Effect
+pub fn go_to_selected(a: Attributes, s: State, c: Cause) -> Effect
     ensures { λ r. ⌜ r ≡ selecting c a s ⌝ }
 {
     let held = s.window;

@@ -18,7 +18,8 @@ use Rattle.table.specs.declared.Found.the-variants.{At, Nothing}
 use Rattle.table.specs.declared.Entry.{Entry}
 use Rattle.table.specs.declared.Entry.the-variants.{Bad, Unknown, Here}
 use Rattle.table.specs.Layout.{wordsOf, recordOf}
-use Rattle.table.specs.Table.{maxSets, count, rowStart, row, rowsFrom, rows, recordsOf, idOf, legalRow, legalAfter, legalRows, legalSets, sized, legalTable, Legal, findIn, entryOf, enterIn}
+use Rattle.record.specs.Legal.{maxSets}
+use Rattle.table.specs.Table.{count, rowStart, row, rowsFrom, rows, recordsOf, idOf, legalRow, legalAfter, legalRows, legalSets, sized, legalTable, Legal, findIn, entryOf, enterIn}
 use Rattle.table.proofs.Records.{Row, row-of, words-legal, record-back}
 use Rattle.table.proofs.Slots.{rows-at, length-rows}
 

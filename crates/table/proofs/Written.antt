@@ -92,6 +92,10 @@ from-length : (ws : List ℕ) (j : ℕ) (rs : List Record) → length (writtenFr
 from-length ws j [] = refl
 from-length ws j (r ∷ rs) = from-length (put ws j (wordsOf r)) (suc j) rs ∙ length-put ws j (wordsOf r) (length-words r)
 
+pub length-written : (ws : List ℕ) (rs : List Record) → length (written ws rs) ≡ length ws
+unfolding written
+length-written ws rs = from-length ws 0 rs
+
 from-count : (ws : List ℕ) (j : ℕ) (rs : List Record) → count (writtenFrom ws j rs) ≡ count ws
 from-count ws j [] = refl
 from-count ws j (r ∷ rs) = from-count (put ws j (wordsOf r)) (suc j) rs ∙ count-put ws j (wordsOf r) (length-words r)

@@ -10,16 +10,12 @@ use Rattle.octets.specs.Choice.{if_then_else_}
 use Rattle.octets.specs.Octets.{part}
 use Rattle.record.specs.declared.Record.{Record}
 use Rattle.record.specs.Events.{wordOf}
-use Rattle.record.specs.Legal.{inRange, legalRecord}
+use Rattle.record.specs.Legal.{maxSets, inRange, legalRecord}
 use Rattle.table.specs.declared.Found.{Found}
 use Rattle.table.specs.declared.Found.the-variants.{At, Nothing}
 use Rattle.table.specs.declared.Entry.{Entry}
 use Rattle.table.specs.declared.Entry.the-variants.{Bad, Unknown, Here}
 use Rattle.table.specs.Layout.{rowWords, wordsOf, recordOf}
-
--- "Up to 31 sets."
-abbrev pub maxSets : ℕ
-maxSets = 31
 
 -- the header's words: the number of sets
 abbrev pub headerWords : ℕ

@@ -8,7 +8,8 @@ ghost use Prim.Native.Nat.{_+_, _*_, _<_, _≤_};
 ghost use lib.ListN.{length, replicate};
 ghost use lib.Seq.{sets};
 ghost use Rattle.table.specs.Layout.{wordsOf, recordOf};
-ghost use Rattle.table.specs.Table.{maxSets, count, rowStart, row, rows, put, sized, legalRows, legalTable, Legal, idOf, recordsOf, findIn, enterIn, listedWord};
+ghost use Rattle.record.specs.Legal.{maxSets};
+ghost use Rattle.table.specs.Table.{count, rowStart, row, rows, put, sized, legalRows, legalTable, Legal, idOf, recordsOf, findIn, enterIn, listedWord};
 use crate::rows::HEADER;
 use crate::rows::LISTED;
 use crate::rows::ROW;
@@ -19,8 +20,7 @@ use crate::rows::words_of;
 use record::Record;
 use record::SetId;
 use record::Slot;
-
-pub const MAX_SETS: usize = 31;
+use record::legal::MAX_SETS;
 
 pub enum Found {
     At(Slot),

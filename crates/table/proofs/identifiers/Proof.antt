@@ -5,7 +5,8 @@ use native.Mathlib.Omega.{arith}
 use borrow.Author.Needs.{needs}
 use lib.ListN.{replicate}
 use lib.Seq.{sets}
-use Rattle.table.specs.Table.{maxSets, count, idOf, recordsOf}
+use Rattle.record.specs.Legal.{maxSets}
+use Rattle.table.specs.Table.{count, idOf, recordsOf}
 use Rattle.table.proofs.Turns.{later, later-none, later-all, ids-more}
 use Rattle.table.proofs.identifiers.Statement.{statement}
 use Rattle.table.proofs.identifiers.Tie as tie
