@@ -5,6 +5,7 @@ pub mod Frame
 pub mod Events
 pub mod Kept
 pub mod History
+pub mod Aggregate
 pub mod OnWords
 pub mod NewSets
 pub mod Stacked

@@ -1,23 +1,26 @@
 -- What is promised of the step over any list of items: demand 3, and demand 1 as far as it is one law for all items.
 -- Each is proved under its name, in lower case and with dashes, in proofs/History.antt and proofs/OnWords.antt.
--- Nothing here looks at a single item: an item names one set (`The`), goes to every set (`Everybody`) or to none (`Nobody`).
+-- But for page 0Bh nothing here looks at a single item: an item names one set (`The`), goes to every set (`Everybody`) or to none (`Nobody`).
 use mathlib.Core.Path.{_≡_}
 use mathlib.Core.Bool.{Bool, true, false, not, _&&_, _||_}
 use mathlib.Core.List.{List, [], _∷_, _++_, map}
 use mathlib.Core.Option.{Option, some}
-use Prim.Native.Nat.{ℕ, _<_}
+use Prim.Native.Nat.{ℕ, _*_, _<_}
 use lib.Dec.{eqb}
 use Rattle.octets.specs.Choice.{if_then_else_}
+use Rattle.octets.specs.Octets.{padded}
 use Rattle.record.specs.declared.Attributes.{Attributes}
 use Rattle.record.specs.declared.State.{State}
 use Rattle.record.specs.declared.Record.{Record}
 use Rattle.record.specs.Events.{anyEnabled}
 use Rattle.replies.specs.Numbers.{badTable}
-use Rattle.replies.specs.Answers.{Answer, refused}
+use Rattle.replies.specs.Answers.{Answer, granted, refused}
 use Rattle.table.specs.Table.{idOf, legalSets, legalTable, written, listedMarks}
-use Rattle.pages.specs.Aggregate.{picked}
+use Rattle.pages.specs.Aggregate.{picked, aggregatePage}
 use Rattle.card.specs.Lists.{nth, keep, beside, join}
-use Rattle.card.specs.Items.{Card, Item, All, View, Meaning, Nobody, Everybody, The}
+use Rattle.card.specs.Items.{Card, Item, command, All, View, Meaning, Nobody, Everybody, The}
+use Rattle.card.specs.declared.commands.Kind.the-variants.{ReadAggregate}
+use Rattle.card.specs.Commands.{commandIn, kindOf, offset, dwords}
 use Rattle.card.specs.Meanings.{meaning}
 use Rattle.card.specs.Card.{effectOn, ruled, statusOf, names, answer, step, run, trace}
 use Rattle.card.specs.Words.{cardOf, Result, stepWords}
@@ -134,6 +137,14 @@ Aggregate =
     (c : Card) (items : List Item) (i : Item) (v : View) (page : List ℕ → Answer) → meaning i ≡ Nobody v
     → ((d : Card) → v .done d ≡ page (picked (map idOf (d .sets)) (listedMarks (d .sets)))) → statusOf (run c items) i ≡ 0
     → answer (run c items) i ≡ page (pendingIds c items)
+
+-- page 0Bh: every read of it that is carried out
+abbrev pub AggregateLog : Type 0
+AggregateLog =
+    (c : Card) (items : List Item) (bytes given : List ℕ) (room : ℕ) → kindOf (commandIn bytes) ≡ ReadAggregate
+    → statusOf (run c items) (command bytes given room) ≡ 0
+    → answer (run c items) (command bytes given room)
+    ≡ granted 0 (padded (aggregatePage (pendingIds c items)) (offset (commandIn bytes)) (dwords (commandIn bytes) * 4))
 
 -- "rising"
 abbrev pub Rising : ℕ → List ℕ → Type 0
