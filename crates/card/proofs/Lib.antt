@@ -4,6 +4,9 @@ pub mod Slots
 pub mod Frame
 pub mod Events
 pub mod Kept
+pub mod History
+pub mod Aggregate
+pub mod OnWords
 pub mod NewSets
 pub mod Stacked
 pub mod Passing

@@ -1,12 +1,16 @@
 -- Laws of the lists by tests. Nothing of the card.
 use mathlib.Core.Path.{_≡_, refl, sym, ap, _∙_}
-use mathlib.Core.List.{List, [], _∷_, map}
+use mathlib.Core.List.{List, [], _∷_, _++_, map}
 use mathlib.Core.Option.{Option, none, some, Option·map}
 use mathlib.Core.Bool.{Bool, true, false}
+use mathlib.Core.Logic.{_⊎_, inl, inr}
 use Prim.Native.Nat.{ℕ, zero, suc, _≤_}
 use native.Mathlib.Omega.{arith}
-use lib.ListN.{length}
+use lib.ListN.{length, set}
+use lib.Seq.{sets, set-set}
 use Rattle.octets.specs.Choice.{if_then_else_}
+use Rattle.octets.proofs.Runs.{set-sets}
+use Rattle.replies.specs.Status.{Line, line, firstOf}
 use Rattle.card.specs.Lists.{keep, nth, first}
 
 pub if-ap : {A B : Type 0} (f : A → B) (b : Bool) (x y : A) → f (if b then x else y) ≡ if b then f x else f y
@@ -42,6 +46,10 @@ nth-map f k [] = refl
 nth-map f zero (x ∷ xs) = refl
 nth-map f (suc k) (x ∷ xs) = nth-map f k xs
 
+pub keep-same : {A : Type 0} (p q : A → Bool) → ((x : A) → p x ≡ q x) → (xs : List A) → keep p xs ≡ keep q xs
+keep-same p q e [] = refl
+keep-same p q e (x ∷ xs) = rw (e x, keep-same p q e xs)
+
 pub keep-map : {A B : Type 0} (g : A → B) (f : A → A) (p q : A → Bool) → ((x : A) → g (f x) ≡ g x) → ((x : A) → p (f x) ≡ q x)
     → (xs : List A) → map g (keep p (map f xs)) ≡ map g (keep q xs)
 keep-map g f p q e h [] = refl
@@ -60,3 +68,24 @@ module _ {A : Type 0} (f : A → A) (p : A → Bool) (same : (x : A) → p (f x)
   pub first-fixed : ((x : A) → p x ≡ true → f x ≡ x) → (xs : List A) → first p (map f xs) ≡ first p xs
   first-fixed h [] = refl
   first-fixed h (x ∷ xs) = rw (same x, first-fixed h xs) (fixed-by x (p x) (h x) (first p xs))
+
+-- ---- the status table: a last row that holds less often refuses no more
+
+if-zero : (t : Bool) (m x y : ℕ) → (x ≡ 0 → y ≡ 0) → (if t then m else x) ≡ 0 → (if t then m else y) ≡ 0
+if-zero true m x y h e = e
+if-zero false m x y h e = h e
+
+pub last-row :
+    (ls : List Line) (b d : Bool) (m : ℕ) → (b ≡ false → d ≡ false) → firstOf (ls ++ line b m ∷ []) ≡ 0 → firstOf (ls ++ line d m ∷ []) ≡ 0
+last-row [] true d m h e = rw e (if-same d 0)
+last-row [] false d m h e = rw (h refl)
+last-row (l ∷ ls) b d m h e = if-zero (l .holds) (l .number) _ _ (last-row ls b d m h) e
+
+-- ---- a run of words stored over one that is as long
+
+pub sets-over : (us vs l : List ℕ) (b : ℕ) → length us ≡ length vs → sets (sets l b us) b vs ≡ sets l b vs
+sets-over [] [] l b e = refl
+sets-over [] (v ∷ vs) l b e = absurd (omega arith)
+sets-over (u ∷ us) [] l b e = absurd (omega arith)
+sets-over (u ∷ us) (v ∷ vs) l b e =
+    rw (← set-sets us (set l b u) (suc b) b v (inl (omega arith)), set-set l b u v) (sets-over us vs (set l b v) (suc b) (omega arith))

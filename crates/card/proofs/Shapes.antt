@@ -4,16 +4,19 @@ use mathlib.Core.Bool.{Bool, true, false}
 use mathlib.Core.List.{List, [], _∷_, map}
 use mathlib.Core.Option.{Option, none, some}
 use mathlib.Core.Logic.{_⊎_, inl, inr, ⊎-elim}
-use Prim.Native.Nat.{ℕ}
-use lib.Dec.{eqb}
+use Prim.Native.Nat.{ℕ, _*_, _≤_}
+use native.Mathlib.Omega.{arith}
+use native.Mathlib.Nat.{mul-le-mul-left}
+use lib.Dec.{eqb, ltb}
 use lib.ListN.{length}
-use borrow.Author.Tests.{eqb-true, eq-eqb}
+use borrow.Author.Tests.{ltb-false, le-ltb, eqb-true, eq-eqb}
 use Rattle.record.specs.declared.Record.{Record}
 use Rattle.table.specs.Table.{idOf}
 use Rattle.card.specs.Lists.{first}
-use Rattle.card.specs.Items.{Card, Item, Meaning, Nobody, Everybody, The}
+use Rattle.card.specs.Items.{Card, Item, All, Meaning, Nobody, Everybody, The}
 use Rattle.card.specs.Meanings.{meaning}
-use Rattle.card.specs.Card.{has, names, namesBy, concerns, concernsBy, touched, ruled, answer, answerBy}
+use Rattle.card.specs.Card.{statusAll, has, names, namesBy, concerns, concernsBy, touched, ruled, answer, answerBy}
+use Rattle.card.proofs.Lists.{last-row}
 
 pub bool-cases : (b : Bool) → (b ≡ true) ⊎ (b ≡ false)
 bool-cases true = inl refl
@@ -42,6 +45,22 @@ answer-by (The b o) a c d e h = rw (eqb-true b a e, h)
 pub answers : (i : Item) (a : ℕ) (c d : Card) → names a i ≡ true → first (has a) (c .sets) ≡ first (has a) (d .sets) → answer c i ≡ answer d i
 unfolding names answer
 answers i a c d e h = answer-by (meaning i) a c d e h
+
+-- an item that concerns a set of n concerns it on a card of one, where less room is asked for
+less : (each room n : ℕ) → 1 ≤ n → ltb room (each * n) ≡ false → ltb room (each * 1) ≡ false
+less each room n h e = le-ltb room (each * 1) (omega (arith, mul-le-mul-left each h, ltb-false room (each * n) e))
+
+pub fewer-all : (a : All) (n : ℕ) → 1 ≤ n → statusAll a n ≡ 0 → statusAll a 1 ≡ 0
+fewer-all a n h e = last-row (a .early) _ _ _ (less (a .each) (a .room) n h) e
+
+fewer-by : (m : Meaning) (n id : ℕ) → 1 ≤ n → concernsBy m n id ≡ true → concernsBy m 1 id ≡ true
+fewer-by (Nobody v) n id h e = e
+fewer-by (Everybody a) n id h e = eq-eqb _ _ (fewer-all a n h (eqb-true _ _ e))
+fewer-by (The a o) n id h e = e
+
+pub fewer : (i : Item) (n id : ℕ) → 1 ≤ n → concerns n id i ≡ true → concerns 1 id i ≡ true
+unfolding concerns
+fewer i n id h e = fewer-by (meaning i) n id h e
 
 -- ---- one set
 

@@ -25,3 +25,9 @@ keep p (x ∷ xs) = if p x then x ∷ keep p xs else keep p xs
 abbrev pub join {ℓ} : {A : Type ℓ} → List (List A) → List A
 join [] = []
 join (x ∷ xs) = x ++ join xs
+
+-- of two lists side by side, the elements of the second beside those of the first that pass
+abbrev pub beside {ℓ} : {A B : Type ℓ} → (A → Bool) → List A → List B → List B
+beside p [] ys = []
+beside p (x ∷ xs) [] = []
+beside p (x ∷ xs) (y ∷ ys) = if p x then y ∷ beside p xs ys else beside p xs ys
