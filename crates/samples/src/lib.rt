@@ -9,6 +9,8 @@ pub const WORDS: usize = 769;
 
 pub const BYTES: usize = 2772;
 
+const BODIES: usize = 33;
+
 const BODY: usize = 84;
 
 // The thirteen numbers of a body: a capacity counts as two.
@@ -34,6 +36,10 @@ pub fn store(words: &mut [u64], at: usize, value: u64) {
     if at < words.len() {
         words[at] = value;
     }
+}
+
+pub fn at(words: &[u64], i: usize) -> u64 {
+    if i < words.len() { words[i] } else { 0 }
 }
 
 pub fn copy(to: &mut [u64], from: &[u64]) {
@@ -90,6 +96,20 @@ pub fn put_nth(bytes: &mut [u8], n: usize, a: [u64; ATTRIBUTES]) {
     if n < bytes.len() / BODY {
         let b = n * BODY;
         put_body(&mut bytes[b..], a);
+    }
+}
+
+// The identifiers of many sets: 10, 20, and so on, so that there is room between them.
+fn tenfold(n: usize) -> u64 {
+    if n < BODIES { (n as u64 + 1) * 10 } else { 0 }
+}
+
+// Bodies alike but for their identifiers.
+pub fn put_many(bytes: &mut [u8], a: [u64; ATTRIBUTES]) {
+    let mut n = 0;
+    while n < BODIES {
+        put_nth(bytes, n, with(a, 0, tenfold(n)));
+        n += 1;
     }
 }
 
