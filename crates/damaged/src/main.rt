@@ -13,6 +13,8 @@ fn run_three() {
     rows::damages(&words);
     rows::edges(&words);
     items::run(&words);
+    tables::quieten(&mut words);
+    items::run_quiet(&words);
 }
 
 fn run_many() {

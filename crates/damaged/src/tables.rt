@@ -92,6 +92,11 @@ pub fn three(words: &mut [u64]) {
     );
 }
 
+// Set 9 with no event, and with the warnings of reads and writes enabled.
+pub fn quieten(words: &mut [u64]) {
+    put_all(words, &[[39, 0x0003], [47, 0], [48, 0]]);
+}
+
 fn set_up_many(words: &mut [u64]) {
     let mut bytes = no_bytes();
     put_many(&mut bytes, SET_7);
