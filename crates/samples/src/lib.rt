@@ -100,7 +100,7 @@ pub fn put_nth(bytes: &mut [u8], n: usize, a: [u64; ATTRIBUTES]) {
 }
 
 // The identifiers of many sets: 10, 20, and so on, so that there is room between them.
-fn tenfold(n: usize) -> u64 {
+pub fn tenfold(n: usize) -> u64 {
     if n < BODIES { (n as u64 + 1) * 10 } else { 0 }
 }
 
