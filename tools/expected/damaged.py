@@ -146,6 +146,11 @@ for first, rows in ALLOWED.items():
 changes(2001, table, STRANGE_ITEMS)
 changes(2101, table, ITEMS)
 # Set 9 with no event yet, and other bits enabled: what lists it, and what does not.
+table = three()
 with_fields(table, 1, enev=0x0003, events=0, listed=0)
 changes(2201, table, ITEMS)
+# Set 9 below every threshold already, with an event that was not enabled when it happened.
+table = three()
+with_fields(table, 1, enev=0x0007, reads=250, writes=190, time=4950, events=0x0001, listed=0)
+changes(2301, table, ITEMS)
 verdicts(1901, many(), OF_MANY, MANY)

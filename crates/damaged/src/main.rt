@@ -13,8 +13,20 @@ fn run_three() {
     rows::damages(&words);
     rows::edges(&words);
     items::run(&words);
+}
+
+fn run_quiet() {
+    let mut words = no_words();
+    tables::three(&mut words);
     tables::quieten(&mut words);
     items::run_quiet(&words);
+}
+
+fn run_spent() {
+    let mut words = no_words();
+    tables::three(&mut words);
+    tables::spend(&mut words);
+    items::run_spent(&words);
 }
 
 fn run_many() {
@@ -25,5 +37,7 @@ fn run_many() {
 
 fn main() {
     run_three();
+    run_quiet();
+    run_spent();
     run_many();
 }

@@ -97,6 +97,21 @@ pub fn quieten(words: &mut [u64]) {
     put_all(words, &[[39, 0x0003], [47, 0], [48, 0]]);
 }
 
+// Set 9 with each estimate below its threshold already, and an event that is enabled by now and was not when it happened.
+pub fn spend(words: &mut [u64]) {
+    put_all(
+        words,
+        &[
+            [39, 0x0007],
+            [43, 250],
+            [44, 190],
+            [45, 4950],
+            [47, 0x0001],
+            [48, 0],
+        ],
+    );
+}
+
 fn set_up_many(words: &mut [u64]) {
     let mut bytes = no_bytes();
     put_many(&mut bytes, SET_7);
