@@ -1,0 +1,27 @@
+use Prim.Native.Nat.{_-_, _≤_}
+use lib.ListN.{length}
+use borrow.Author.Needs.{needs}
+use Rattle.setting_up.proofs.tries.try_all.Statement.{statement}
+use Rattle.setting_up.proofs.tries.try_all.Tie as tie
+
+abbrev Inv-loop : tie.InvT-loop
+Inv-loop marked first rows number₀ i₀ number i = i ≤ length rows
+
+abbrev μ-loop : tie.MeasureT-loop
+μ-loop marked first rows number₀ i₀ number i = length rows - i
+
+pub try-all-spec : {M : Type 1} → statement M
+try-all-spec =
+    tie.close
+    (tie.spec
+    Inv-loop
+    μ-loop
+    (λ c. search needs)
+    (λ c. search needs)
+    (λ c. search needs)
+    (λ c κs. search needs)
+    (λ c κs. search needs)
+    (λ c. search needs)
+    (λ c. search needs)
+    (λ c. search needs)
+    (λ c. search needs))
