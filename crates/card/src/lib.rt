@@ -1,6 +1,6 @@
-// The card: media events and ticks on a lent table of words.
+// The card on a lent table of words: set-up, media events, ticks and commands.
 pub mod answering;
-pub mod commands;
+mod commands;
 pub mod media;
 pub mod setting;
 mod status;
