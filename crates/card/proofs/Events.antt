@@ -28,7 +28,7 @@ use Rattle.card.proofs.Lists.{map-same}
 use Rattle.card.proofs.Shapes.{touched-own}
 use Rattle.card.proofs.Frame.{step-bad, step-legal, step-refused, step-unknown, step-done, here}
 
-meaning-media : (id : ℕ) (m : Media) → meaning (itemOf id m) ≡ The id (event (effectOf m))
+pub meaning-media : (id : ℕ) (m : Media) → meaning (itemOf id m) ≡ The id (event (effectOf m))
 unfolding meaning
 meaning-media id (Reads k) = refl
 meaning-media id (Writes k) = refl

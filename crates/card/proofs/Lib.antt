@@ -14,3 +14,5 @@ pub mod Carried
 pub mod Naming
 pub mod Whole
 pub mod Viewing
+pub mod Plain
+pub mod Firm
