@@ -16,3 +16,4 @@ pub mod Whole
 pub mod Viewing
 pub mod Plain
 pub mod Firm
+pub mod Exact

@@ -39,7 +39,7 @@ answered-bad ws i before x e ex =
     let d = step-bad ws i e in
     record { table = rw d; reply = rw (d, ex) (refused-reply badTable before) }
 
-unknown-not-zero : (c : Command) → firstOf (earlyLines c ++ line true unknownNumber ∷ []) ≡ 0 → ⊥
+pub unknown-not-zero : (c : Command) → firstOf (earlyLines c ++ line true unknownNumber ∷ []) ≡ 0 → ⊥
 unknown-not-zero c z =
     let n = passed (earlyLines c ++ line true unknownNumber ∷ []) refl z in
     let t : true ≡ false = n .1 .1 .1 .1 .1 .1 .0 in

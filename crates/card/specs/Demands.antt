@@ -1,5 +1,6 @@
 -- What is promised of the step over any list of items: demand 3, and demand 1 as far as it is one law for all items.
--- Each is proved under its name, in lower case and with dashes, in proofs/History.antt and proofs/OnWords.antt.
+-- Each is proved under its name, in lower case and with dashes, in proofs/Exact.antt,
+-- proofs/History.antt and proofs/OnWords.antt.
 -- But for page 0Bh nothing here looks at a single item: an item names one set (`The`), goes to every set (`Everybody`) or to none (`Nobody`).
 use mathlib.Core.Path.{_≡_}
 use mathlib.Core.Bool.{Bool, true, false, not, _&&_, _||_}
@@ -40,6 +41,14 @@ statusWords ws i = if legalTable ws then statusOf (cardOf ws) i else badTable
 abbrev pub RefusedWords : Type 0
 RefusedWords =
     (ws : List ℕ) (i : Item) → (statusWords ws i ≡ 0 → ⊥) → stepWords ws i ≡ record { table = ws; answer = refused (statusWords ws i) }
+
+-- "the one refusal that document 01 names for that input", exactly then: the number that is answered is that of the first row
+-- that holds, and 0, success, where none does
+abbrev pub Exactly : Type 0
+Exactly = (c : Card) (i : Item) → answer c i .status ≡ statusOf c i
+
+abbrev pub ExactlyWords : Type 0
+ExactlyWords = (ws : List ℕ) (i : Item) → stepWords ws i .answer .status ≡ statusWords ws i
 
 -- ==== demand 3: "Start from any legal table and take any sequence of items, refused ones included, with no new set-up in it."
 -- Where a legal table is needed, `legalSets` says so. A set is the record in a slot, which keeps its place.
