@@ -1,5 +1,5 @@
 -- Demand 1: the number that is answered is that of the first row that holds, and 0 where none does.
-use mathlib.Core.Path.{_≡_, refl, sym, ap, _∙_}
+use mathlib.Core.Path.{_≡_, refl, sym, _∙_}
 use mathlib.Core.Bool.{Bool, true, false}
 use mathlib.Core.List.{List}
 use mathlib.Core.Option.{Option, none, some}
@@ -8,7 +8,6 @@ use Prim.Native.Nat.{ℕ}
 use native.Mathlib.Omega.{arith}
 use borrow.Author.Tests.{eqb-true}
 use lib.Dec.{eqb}
-use lib.ListN.{length}
 use Rattle.octets.specs.Choice.{if_then_else_}
 use Rattle.record.specs.declared.Record.{Record}
 use Rattle.replies.specs.Answers.{Answer, refused}
@@ -22,8 +21,8 @@ use Rattle.card.specs.Commands.{kindOf, commandIn}
 use Rattle.card.specs.Commanded.{meaningBy, commandMeaning}
 use Rattle.card.specs.Meanings.{meaning}
 use Rattle.card.specs.Card.{has, unknownAt, statusOne, statusBy, statusOf, doneOne, doneBy, answerBy, answer}
-use Rattle.card.specs.Words.{cardOf, stepWords}
-use Rattle.card.specs.Demands.{statusWords, Exactly, ExactlyWords}
+use Rattle.card.specs.Words.{cardOf}
+use Rattle.card.specs.Demands.{Exactly, ExactlyWords}
 use Rattle.card.proofs.Shapes.{bool-cases}
 use Rattle.card.proofs.Frame.{step-bad, step-legal}
 use Rattle.card.proofs.Naming.{unknown-not-zero}

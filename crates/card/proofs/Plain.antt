@@ -6,14 +6,13 @@ use mathlib.Core.Option.{Option, none, some}
 use mathlib.Core.Logic.{⊎-elim}
 use Prim.Native.Nat.{ℕ}
 use lib.Dec.{eqb}
-use lib.ListN.{length}
 use Rattle.octets.specs.Choice.{if_then_else_}
 use Rattle.record.specs.declared.Attributes.{Attributes}
 use Rattle.record.specs.declared.State.{State}
 use Rattle.record.specs.declared.Record.{Record}
 use Rattle.record.specs.declared.Effect.{Effect}
-use Rattle.replies.specs.Answers.{Answer, granted, refused}
-use Rattle.table.specs.Table.{recordsOf, legalTable}
+use Rattle.replies.specs.Answers.{Answer, refused}
+use Rattle.table.specs.Table.{legalTable}
 use Rattle.card.specs.declared.media.Media.{Media}
 use Rattle.card.specs.Lists.{first, join}
 use Rattle.card.specs.Items.{Card, Item, tick, The, Everybody}

@@ -5,7 +5,7 @@
 use mathlib.Core.Path.{_≡_}
 use mathlib.Core.Bool.{Bool, true, false, not, _&&_, _||_}
 use mathlib.Core.List.{List, [], _∷_, _++_, map}
-use mathlib.Core.Option.{Option, some}
+use mathlib.Core.Option.{some}
 use Prim.Native.Nat.{ℕ, _*_, _<_}
 use lib.Dec.{eqb}
 use Rattle.octets.specs.Choice.{if_then_else_}
@@ -24,7 +24,7 @@ use Rattle.card.specs.declared.commands.Kind.the-variants.{ReadAggregate
 use Rattle.card.specs.Commands.{commandIn, kindOf, offset, dwords}
 use Rattle.card.specs.Meanings.{meaning}
 use Rattle.card.specs.Card.{effectOn, ruled, statusOf, names, answer, step, run, trace}
-use Rattle.card.specs.Words.{cardOf, Result, stepWords}
+use Rattle.card.specs.Words.{cardOf, stepWords}
 
 -- ==== demand 1: "with success or with the one refusal that document 01 names for that input"
 

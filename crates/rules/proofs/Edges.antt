@@ -4,7 +4,7 @@ use mathlib.Core.Bool.{Bool, true, false}
 use mathlib.Core.List.{List, [], _∷_}
 use Prim.Native.Nat.{ℕ}
 use Rattle.record.specs.declared.Window.{Window}
-use Rattle.record.specs.declared.Window.the-variants.{Off, D, N}
+use Rattle.record.specs.declared.Window.the-variants.{D, N}
 use Rattle.rules.specs.declared.Cause.the-variants.{SelectD}
 use Rattle.record.specs.declared.Attributes.{Attributes}
 use Rattle.record.specs.declared.Events.{Events}
@@ -16,7 +16,7 @@ use Rattle.rules.specs.declared.Selected.{Selected}
 use Rattle.rules.specs.declared.Selected.the-variants.{Done, Refused}
 use Rattle.record.specs.Record.{stateOf}
 use Rattle.record.specs.Events.{eventsOf, noEvents, bitsOf, settled}
-use Rattle.rules.specs.Rules.{still, configure, select, refusalNo, readEvent, excursionEvent, tick}
+use Rattle.rules.specs.Rules.{configure, select, refusalNo, readEvent, excursionEvent, tick}
 
 abbrev seven : Attributes
 seven =

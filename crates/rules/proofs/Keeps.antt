@@ -1,10 +1,10 @@
 -- Every rule keeps a legal set legal.
-use mathlib.Core.Path.{_≡_, refl, sym, _∙_}
-use mathlib.Core.Bool.{Bool, true, false, not, _&&_, _||_}
-use Prim.Native.Nat.{ℕ, _+_, _-_, _≤_, _<_, min}
+use mathlib.Core.Path.{_≡_, refl}
+use mathlib.Core.Bool.{Bool, true, false, _&&_}
+use Prim.Native.Nat.{ℕ, _+_, _-_, _≤_, min}
 use native.Mathlib.Omega.{arith}
 use lib.Dec.{ltb, leb, eqb}
-use borrow.Author.Tests.{leb-true, ltb-true, eqb-true, le-leb, lt-ltb, leb-false, ltb-false}
+use borrow.Author.Tests.{leb-true, le-leb, lt-ltb, leb-false, ltb-false}
 use Rattle.octets.specs.Choice.{if_then_else_}
 use Rattle.octets.proofs.Tests.{and-left, and-right, both, together}
 use Rattle.record.specs.declared.Attributes.{Attributes}
@@ -16,14 +16,12 @@ use Rattle.record.specs.declared.Quantity.{Quantity}
 use Rattle.record.specs.declared.Quantity.the-variants.{Reads, Writes, Time}
 use Rattle.record.specs.declared.Config.{Config}
 use Rattle.record.specs.declared.State.{State}
-use Rattle.record.specs.declared.Record.{Record}
 use Rattle.record.specs.declared.Effect.{Effect}
 use Rattle.record.specs.Record.{limit, spent, need, afresh, spending}
 use Rattle.record.specs.Window.{byWindow, sameWindow}
 use Rattle.rules.specs.Changes.{movedBy}
-use Rattle.rules.specs.Rules.{still, configure, entered, selecting, causeOfMode, isOver, causeOver, carried, charge, onlyInD, readEvent, writeEvent, excursionEvent, tick, recovery, clearingRead}
-use Rattle.record.specs.Events.{settled}
-use Rattle.record.specs.Legal.{inRange, legalAttributes, noneSpent, withinLimits, legalState, legalNotes, legalRecord, KeepsState, KeepsRecord}
+use Rattle.rules.specs.Rules.{still, configure, entered, selecting, causeOfMode, isOver, causeOver, carried, charge, readEvent, writeEvent, excursionEvent, tick, recovery, clearingRead}
+use Rattle.record.specs.Legal.{legalAttributes, noneSpent, withinLimits, legalState, legalNotes, KeepsState, KeepsRecord}
 use Rattle.record.proofs.Marks.{notes-kept}
 
 -- of three tests that hold together
