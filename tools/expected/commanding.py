@@ -1,5 +1,10 @@
 #!/usr/bin/env python3
-"""What the program `commanding` must print, from document 01 and docs/LAYOUT.md alone (see model.py)."""
+"""What the program `commanding` must print, from document 01 and docs/LAYOUT.md alone (see model.py).
+
+With the word `rows` it prints the items' numbers instead, which the program holds as its rows.
+"""
+import sys
+
 from model import (
     AGGREGATE, CONFIG, D, GET_FEATURES, GET_LOG, IDENTIFY, LATENCY, N, SET_FEATURES, WINDOW, body, charge, command, event,
     excursion, place, set_up, ticks)
@@ -15,7 +20,7 @@ SET_12 = [12, 65_535, ONES, ONES, LARGEST, LARGEST, LARGEST, LARGEST, ONES, ONES
 DATA = [(0, 0, 0, 0), (0x4001, 10, 0, 0), (0xFFFF, 0, 0, 0), (0xFFFF, 300, 20, 4900), (0x8000, 11, 12, 13), (0x3FFF, LARGEST, 51, 1001)]
 
 
-# ---- items: each is a pair of its numbers, as the program has them, and of what it does
+# ---- items: each is a pair of its numbers, as the program has them, and of what it does to the words
 
 
 def raw(d0, d10, d11=0, d12=0, d13=0, size=64, given=0, data=0, room=4096, ones=False):
@@ -153,8 +158,10 @@ STORED = [
     set_config(8, 1, 4, given=0), set_config(7, 0, 0, room=0), get_config(7),
 ]
 
-# 14h while off, and each window number.
+# 14h while off, get and set.
 OFF_SET = [get_window(7), set_window(7, D), set_window(7, N), set_window(7, 0), set_window(7, 7), get_window(8), get_window(7, room=0)]
+
+# Each window number; select D too early and in time, where every estimate is below its threshold.
 WINDOWS = [
     set_config(7, 1, 5), get_window(7), *(set_window(7, n) for n in (0, 3, 4, 5, 6, 7)), set_window(7, 9), tick(19), set_window(7, D),
     set_window(7, N), tick(1), set_window(7, N), set_window(7, D, room=0), latency(7), aggregate(3),
@@ -255,10 +262,14 @@ LISTED = [
     latency(310, 1, retain=1), aggregate(4), latency(170, 1, offset=512, retain=0), aggregate(4), latency(310, 1, retain=0),
     aggregate(4), latency(50, 1), excurse(300), excurse(20), aggregate(5),
 ]
+
+# All 31 sets listed: the last entry stands at the page's end.
 ALL_LISTED = [
-    *(item for n in range(1, 32) for item in (set_config(10 * n, 1, 4),)), tick(20), *(set_window(10 * n, D) for n in range(1, 32)),
+    *(set_config(10 * n, 1, 4) for n in range(1, 32)), tick(20), *(set_window(10 * n, D) for n in range(1, 32)),
     *(excurse(10 * n) for n in range(1, 32)), aggregate(), aggregate(1, offset=68), aggregate(2, offset=64), aggregate(19),
 ]
+
+# The list of sets from the middle, between two sets, at the last, past it, and whole.
 LISTS = [identify(290), identify(301), identify(310), identify(311), identify(295, room=4200), identify(0)]
 
 GROUPS = [
@@ -276,4 +287,7 @@ if __name__ == "__main__":
         words = start()
         for first, items in scenarios.values():
             for number, item in enumerate(items, first):
-                line(number, words, item)
+                if sys.argv[1:] == ["rows"]:
+                    print(number, item[0])
+                else:
+                    line(number, words, item)

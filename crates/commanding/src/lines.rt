@@ -11,8 +11,11 @@ use samples::no_words;
 use samples::print;
 use samples::print_number;
 use samples::print_word;
+use samples::tenfold;
 
 const ROOM: usize = 4200;
+
+const SETS: usize = 31;
 
 // A byte that no item of the rows hands back, so that one that is written shows.
 const PATTERN: u8 = 0xA5;
@@ -131,5 +134,24 @@ pub fn try_all(words: &mut [u64], first: u64, rows: &[[u64; COLUMNS]]) {
         try_row(words, number, rows[i]);
         number = std::num::wrapping_add_u64(number, 1);
         i += 1;
+    }
+}
+
+fn with(row: [u64; COLUMNS], place: usize, value: u64) -> [u64; COLUMNS] {
+    let mut b = row;
+    if place < COLUMNS {
+        b[place] = value;
+    }
+    b
+}
+
+// The same item for each of 31 sets, whose identifier is put at a place of the row.
+pub fn try_each(words: &mut [u64], first: u64, row: [u64; COLUMNS], place: usize) {
+    let mut number = first;
+    let mut n = 0;
+    while n < SETS {
+        try_row(words, number, with(row, place, tenfold(n)));
+        number = std::num::wrapping_add_u64(number, 1);
+        n += 1;
     }
 }
