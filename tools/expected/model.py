@@ -203,3 +203,203 @@ def lend(words, n, call):
     part = list(words[:n])
     status = call(part)
     return status, part + list(words[n:])
+
+
+# ---- commands
+
+GET_LOG, IDENTIFY, SET_FEATURES, GET_FEATURES = 0x02, 0x06, 0x09, 0x0A
+CONFIG, WINDOW = 0x13, 0x14
+LATENCY, AGGREGATE = 0x0A, 0x0B
+PAGE_SIZES = {LATENCY: 512, AGGREGATE: 72}
+FEATURE_SIZE = 512
+LIST_SIZE = 4096
+
+
+def number(data, at, width):
+    return int.from_bytes(data[at:at + width], "little")
+
+
+def page(size, fields):
+    """Zeros, with numbers put at their offsets; each is (offset, width, value)."""
+    data = bytearray(size)
+    for at, width, value in fields:
+        data[at:at + width] = value.to_bytes(width, "little")
+    return bytes(data)
+
+
+class Command:
+    """The fields of a command's 64 bytes."""
+
+    def __init__(self, data):
+        d10, d11, d12, d13 = (number(data, at, 4) for at in (40, 44, 48, 52))
+        self.opcode = data[0]
+        self.number = d10 & 0xFF  # FID, CNS or page
+        self.save = d10 >> 31
+        self.select = d10 >> 8 & 7
+        self.set = d11 & 0xFFFF
+        self.enable = d12 & 1
+        self.window = d12 & 7
+        self.retain = d10 >> 15 & 1
+        self.dwords = (d10 >> 16 | (d11 & 0xFFFF) << 16) + 1
+        self.offset = d12 | d13 << 32
+        if self.opcode == GET_LOG:
+            self.set = d11 >> 16
+
+    def is_feature(self):
+        return self.opcode in (SET_FEATURES, GET_FEATURES)
+
+    def names_a_set(self):
+        return self.is_feature() or (self.opcode == GET_LOG and self.number == LATENCY)
+
+    def sets(self, feature):
+        return self.opcode == SET_FEATURES and self.number == feature
+
+    def gets(self, feature):
+        return self.opcode == GET_FEATURES and self.number == feature
+
+    def room(self):
+        if self.opcode == GET_LOG:
+            return 4 * self.dwords
+        if self.opcode == IDENTIFY:
+            return LIST_SIZE
+        return FEATURE_SIZE if self.gets(CONFIG) else 0
+
+
+def early_refusal(c):
+    """The refusals that look at no set, in 01's order; 0 where there is none."""
+    if c.opcode not in (GET_LOG, IDENTIFY, SET_FEATURES, GET_FEATURES):
+        return 0x0001
+    if c.is_feature() and c.number not in (CONFIG, WINDOW):
+        return 0x0002
+    if c.opcode == IDENTIFY and c.number != 0x04:
+        return 0x0002
+    if c.opcode == GET_LOG and c.number not in PAGE_SIZES:
+        return 0x0109
+    if c.opcode == SET_FEATURES and c.save:
+        return 0x010D
+    if c.opcode == GET_FEATURES and c.select:
+        return 0x0002
+    if c.opcode == GET_LOG and (c.offset % 4 or c.offset > PAGE_SIZES[c.number] or c.dwords > 1024):
+        return 0x0002
+    return 0
+
+
+def late_refusal(c, r, given, room):
+    """Those after the look-up; r is the named set's row, or None for a command that names none."""
+    if c.is_feature() and c.number == WINDOW:
+        if r["window"] == OFF or (c.opcode == SET_FEATURES and c.window not in (D, N)):
+            return 0x0002
+    if (c.sets(CONFIG) and given < FEATURE_SIZE) or room < c.room():
+        return 0x07C2
+    if c.sets(WINDOW) and c.window == D and r["window"] == N and r["n_time"] != r["high"]:
+        return 0x07C1
+    return 0
+
+
+def set_mode(r, enable, given):
+    """Enabling starts N afresh. Events and the mark stay."""
+    r.update(window=N if enable else OFF, reads=0, writes=0, time=0, n_time=0)
+    r.update(enev=number(given, 0, 2) & BITS, reads_threshold=number(given, 32, 8))
+    r.update(writes_threshold=number(given, 40, 8), time_threshold=number(given, 48, 8))
+
+
+def enter_d(r):
+    """An estimate that is below its threshold from the first counts as a fall."""
+    r.update(window=D, reads=0, writes=0, time=0, n_time=0)
+    events = 0
+    for quantity, (bit, most) in QUANTITIES.items():
+        if r[most] < r[quantity + "_threshold"] and r["enev"] >> bit & 1:
+            events |= 1 << bit
+    happen(r, events)
+
+
+def select(r, window):
+    if r["window"] != window:
+        enter_d(r) if window == D else leave_d(r, 0)
+
+
+def estimate(r, quantity):
+    most = r[QUANTITIES[quantity][1]]
+    if r["window"] == D:
+        return max(most - r[quantity], 0)
+    return most if r["window"] == N and r["n_time"] == r["high"] else 0
+
+
+def config_page(r):
+    thresholds = [(32, 8, r["reads_threshold"]), (40, 8, r["writes_threshold"]), (48, 8, r["time_threshold"])]
+    return page(FEATURE_SIZE, [(0, 2, r["enev"])] + thresholds)
+
+
+def latency_page(r):
+    statics = ["reads_typical", "writes_typical", "time_maximum", "high", "low"]
+    fields = [(0, 1, r["window"]), (2, 2, r["events"])]
+    fields += [(32 + 8 * n, 8, r[field]) for n, field in enumerate(statics)]
+    fields += [(128 + 8 * n, 8, estimate(r, quantity)) for n, quantity in enumerate(QUANTITIES)]
+    return page(PAGE_SIZES[LATENCY], fields)
+
+
+def aggregate_page(rows):
+    listed = [r["id"] for r in rows if r["listed"]]
+    return page(PAGE_SIZES[AGGREGATE], [(0, 8, len(listed))] + [(8 + 2 * n, 2, s) for n, s in enumerate(listed)])
+
+
+def list_page(rows, least):
+    rows = [r for r in rows if r["id"] >= least]
+    fields = [(0, 1, len(rows))]
+    for n, r in enumerate(rows):
+        at = 128 + 128 * n
+        fields += [(at, 2, r["id"]), (at + 2, 2, r["group"]), (at + 8, 4, r["random_read"]), (at + 12, 4, r["write_size"])]
+        fields += [(at + 16, 8, r["total_low"]), (at + 24, 8, r["total_high"])]
+        fields += [(at + 32, 8, r["unallocated_low"]), (at + 40, 8, r["unallocated_high"])]
+    return page(LIST_SIZE, fields)
+
+
+def part(data, c):
+    """So many dwords of a page from an offset, zeros past its end."""
+    return data[c.offset:c.offset + 4 * c.dwords].ljust(4 * c.dwords, b"\0")
+
+
+def on_set(c, r, given):
+    """Dword 0 and data of a command on a set, whose row is changed."""
+    if c.sets(CONFIG):
+        set_mode(r, c.enable, given)
+    elif c.sets(WINDOW):
+        select(r, c.window)
+    elif c.gets(CONFIG):
+        return int(r["window"] != OFF), config_page(r)
+    elif c.gets(WINDOW):
+        return r["window"], b""
+    else:
+        data = part(latency_page(r), c)
+        if not c.retain:
+            r.update(events=0, listed=0)
+        return 0, data
+    return 0, b""
+
+
+def command(words, data, given, room):
+    """Status, dword 0 and data. The words are changed in place, and only where the status is 0."""
+    if not legal(words):
+        return 0x07C3, 0, b""
+    if len(data) != 64:
+        return 0x07C7, 0, b""
+    c = Command(data)
+    refused = early_refusal(c)
+    if refused:
+        return refused, 0, b""
+    rows = [row(words, slot) for slot in range(words[0])]
+    found = None
+    if c.names_a_set():
+        found = next((slot for slot, r in enumerate(rows) if r["id"] == c.set), None)
+        if found is None:
+            return 0x0002, 0, b""
+    refused = late_refusal(c, None if found is None else rows[found], len(given), room)
+    if refused:
+        return refused, 0, b""
+    if found is not None:
+        dword, out = on_set(c, rows[found], given)
+        put_row(words, found, rows[found])
+        return 0, dword, out
+    if c.opcode == IDENTIFY:
+        return 0, 0, list_page(rows, c.set)
+    return 0, 0, part(aggregate_page(rows), c)
