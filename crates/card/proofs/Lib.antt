@@ -1,6 +1,7 @@
 pub mod Lists
 pub mod Shapes
 pub mod Slots
+mod Edges
 pub mod Frame
 pub mod Events
 pub mod Kept
