@@ -6,6 +6,7 @@ pub mod Frame
 pub mod Events
 pub mod Kept
 pub mod History
+pub mod Stored
 pub mod Aggregate
 pub mod OnWords
 pub mod NewSets
