@@ -1,6 +1,7 @@
--- What is promised of the step over any list of items: demand 3, and demand 1 as far as it is one law for all items.
+-- What is promised of the step over any list of items: demand 3, of demand 2 what features store, and demand 1 as far as it is
+-- one law for all items.
 -- Each is proved under its name, in lower case and with dashes, in proofs/History.antt, proofs/Stored.antt and proofs/OnWords.antt.
--- But for page 0Bh nothing here looks at a single item: an item names one set (`The`), goes to every set (`Everybody`) or to none (`Nobody`).
+-- But for page 0Bh and the features nothing here looks at a single item: an item names one set (`The`), goes to every set (`Everybody`) or to none (`Nobody`).
 use mathlib.Core.Path.{_≡_}
 use mathlib.Core.Bool.{Bool, true, false, not, _&&_, _||_}
 use mathlib.Core.List.{List, [], _∷_, _++_, map}
