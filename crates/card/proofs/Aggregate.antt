@@ -8,7 +8,7 @@ use Rattle.replies.specs.Answers.{Answer, granted}
 use Rattle.pages.specs.Aggregate.{aggregatePage}
 use Rattle.card.specs.declared.commands.Kind.{Kind}
 use Rattle.card.specs.declared.commands.Kind.the-variants.{ReadAggregate}
-use Rattle.card.specs.Items.{Meaning, Nobody, command}
+use Rattle.card.specs.Items.{Nobody, command}
 use Rattle.card.specs.Commands.{commandIn, kindOf, offset, dwords}
 use Rattle.card.specs.Commanded.{viewed, aggregateOf, meaningBy, commandMeaning}
 use Rattle.card.specs.Meanings.{meaning}

@@ -1,14 +1,12 @@
 -- A command carried out on the set that it names, and one that is refused there.
 use mathlib.Core.Path.{_≡_, refl, sym, ap, subst, _∙_}
 use mathlib.Core.Bool.{true}
-use mathlib.Core.List.{List, []}
+use mathlib.Core.List.{List}
 use Prim.Native.Nat.{ℕ}
 use native.Mathlib.Omega.{arith}
 use borrow.Author.Tests.{eq-eqb, ne-eqb}
 use lib.Dec.{eqb}
 use lib.ListN.{length}
-use lib.Seq.{sets}
-use Rattle.octets.specs.Choice.{if_then_else_}
 use Rattle.octets.specs.Octets.{padded}
 use Rattle.record.specs.declared.Record.{Record}
 use Rattle.record.specs.Events.{settled}
@@ -20,7 +18,7 @@ use Rattle.card.specs.declared.commands.Command.{Command}
 use Rattle.card.specs.declared.commands.Kind.{Kind}
 use Rattle.card.specs.Commands.{kindOf, needsOut}
 use Rattle.card.specs.Commanded.{isNamed, ruleBy, doneBy, dwordBy, pageBy, fromBy}
-use Rattle.card.specs.OnSet.{statusOn, answerOn, tableOn, OnSet}
+use Rattle.card.specs.OnSet.{statusOn, answerOn, OnSet}
 use Rattle.card.proofs.Passing.{Fine, fine, done-is}
 
 pub refused-reply : (s : ℕ) (before : List ℕ) → Replied (refused s) before (refusing s) before

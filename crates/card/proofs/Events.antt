@@ -1,7 +1,7 @@
 -- Media events and ticks, from the step to the words.
 use mathlib.Core.Path.{_≡_, refl, sym, ap, _∙_}
-use mathlib.Core.Bool.{Bool, true, false}
-use mathlib.Core.List.{List, [], _∷_, map}
+use mathlib.Core.Bool.{true, false}
+use mathlib.Core.List.{List, map}
 use Prim.Native.Nat.{ℕ, _+_, _≤_, _<_}
 use native.Mathlib.Omega.{arith}
 use native.Mathlib.Nat.{zero-mul}
@@ -15,20 +15,20 @@ use Rattle.replies.specs.Numbers.{badTable, unknownSet, tickTooLong}
 use Rattle.table.specs.declared.Entry.{Entry}
 use Rattle.table.specs.declared.Entry.the-variants.{Bad, Unknown, Here}
 use Rattle.table.specs.Layout.{wordsOf, recordOf}
-use Rattle.table.specs.Table.{count, rowStart, row, idOf, put, recordsOf, legalTable, enterIn, written}
+use Rattle.table.specs.Table.{rowStart, row, idOf, put, recordsOf, legalTable, enterIn, written}
 use Rattle.table.proofs.Known.{is-bad, is-unknown, is-here}
 use Rattle.card.specs.declared.media.Media.{Media}
 use Rattle.card.specs.declared.media.Media.the-variants.{Reads, Writes, Excursion}
-use Rattle.card.specs.Items.{Item, tick, Meaning, Everybody, The}
+use Rattle.card.specs.Items.{Item, tick, The}
 use Rattle.card.specs.Meanings.{event, ticked, meaning}
 use Rattle.card.specs.Media.{itemOf, effectOf, tickOne}
 use Rattle.card.specs.Card.{statusAll, statusOf, concerns, touched, effectOn, answer}
-use Rattle.card.specs.Words.{cardOf, stepWords, Stepped}
+use Rattle.card.specs.Words.{cardOf, Stepped}
 use Rattle.card.proofs.Lists.{map-same}
 use Rattle.card.proofs.Shapes.{touched-own}
 use Rattle.card.proofs.Frame.{step-bad, step-legal, step-refused, step-unknown, step-done, here}
 
-meaning-media : (id : ℕ) (m : Media) → meaning (itemOf id m) ≡ The id (event (effectOf m))
+pub meaning-media : (id : ℕ) (m : Media) → meaning (itemOf id m) ≡ The id (event (effectOf m))
 unfolding meaning
 meaning-media id (Reads k) = refl
 meaning-media id (Writes k) = refl

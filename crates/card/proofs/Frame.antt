@@ -1,32 +1,31 @@
 -- From the step to the words: what an item leaves of a lent table, by what the search for its set finds.
 use mathlib.Core.Path.{_≡_, refl, sym, ap, _∙_}
-use mathlib.Core.Bool.{Bool, true, false}
+use mathlib.Core.Bool.{true, false}
 use mathlib.Core.List.{List, [], _∷_, map}
 use mathlib.Core.Option.{Option, none, some}
-use mathlib.Core.Logic.{_⊎_, inl, inr, ⊎-elim}
+use mathlib.Core.Logic.{_⊎_, ⊎-elim}
 use Prim.Native.Nat.{ℕ, zero, suc, _+_, _≤_, _<_}
 use native.Mathlib.Omega.{arith}
 use native.Mathlib.Nat.{zero-add}
 use borrow.Author.Tests.{eqb-true, eq-eqb, ne-eqb}
 use lib.Dec.{eqb}
-use lib.ListN.{length, set, length-map}
-use Rattle.octets.specs.Choice.{if_then_else_}
+use lib.ListN.{length, length-map}
 use Rattle.record.specs.declared.Record.{Record}
 use Rattle.record.specs.Events.{settled}
 use Rattle.replies.specs.Numbers.{badTable}
-use Rattle.replies.specs.Answers.{Answer, refused}
+use Rattle.replies.specs.Answers.{refused}
 use Rattle.table.specs.declared.Found.{Found}
 use Rattle.table.specs.declared.Found.the-variants.{At, Nothing}
 use Rattle.table.specs.Layout.{wordsOf, recordOf}
-use Rattle.table.specs.Table.{count, rowStart, row, put, rows, rowsFrom, recordsOf, idOf, legalSets, legalTable, Legal, findFrom, findIn, written}
+use Rattle.table.specs.Table.{count, rowStart, row, put, rowsFrom, recordsOf, idOf, legalTable, findFrom, findIn, written}
 use Rattle.table.proofs.Slots.{length-rows}
 use Rattle.table.proofs.Known.{legal-known, sets-known}
 use Rattle.table.proofs.Written.{written-own, written-one}
 use Rattle.card.specs.Lists.{nth, first}
-use Rattle.card.specs.Items.{Card, Item, One, Meaning, Nobody, Everybody, The}
+use Rattle.card.specs.Items.{Item, One, The}
 use Rattle.card.specs.Meanings.{meaning}
-use Rattle.card.specs.Card.{statusAt, unknownAt, statusOne, statusBy, statusOf, doneOne, doneBy, effectOn, ruled, has, names, after, answer, answerBy, step}
-use Rattle.card.specs.Words.{cardOf, Result, stepWords}
+use Rattle.card.specs.Card.{statusAt, unknownAt, statusOne, statusOf, effectOn, ruled, has, names, after, answer}
+use Rattle.card.specs.Words.{cardOf, stepWords}
 use Rattle.card.proofs.Shapes.{bool-cases}
 use Rattle.card.proofs.Slots.{found, refused-answer, refused-sets, at-slot}
 

@@ -2,23 +2,23 @@
 use mathlib.Core.Path.{_≡_, refl, sym, ap, _∙_}
 use mathlib.Core.Bool.{Bool, true, false, not, _&&_, _||_, or-false}
 use mathlib.Core.List.{List, [], _∷_, _++_, map, map-map, append-nil}
-use mathlib.Core.Option.{Option, none, some, Option·map}
-use mathlib.Core.Logic.{_⊎_, inl, inr, ⊎-elim}
-use Prim.Native.Nat.{ℕ, zero, suc, _≤_, _<_}
+use mathlib.Core.Option.{some}
+use mathlib.Core.Logic.{_⊎_, ⊎-elim}
+use Prim.Native.Nat.{ℕ, _≤_, _<_}
 use native.Mathlib.Omega.{arith}
 use borrow.Author.Tests.{eqb-true, eq-eqb, ne-eqb}
 use lib.Dec.{eqb}
 use lib.ListN.{length, length-map}
 use Rattle.octets.specs.Choice.{if_then_else_}
 use Rattle.record.specs.declared.Record.{Record}
-use Rattle.replies.specs.Answers.{Answer, granted, refused}
+use Rattle.replies.specs.Answers.{granted, refused}
 use Rattle.table.specs.Table.{idOf, legalSets, listedMarks}
 use Rattle.pages.specs.Aggregate.{picked}
 use Rattle.card.specs.Lists.{nth, first, keep, beside, join}
 use Rattle.card.specs.Items.{Card, Item, All, Meaning, Nobody, Everybody, The}
 use Rattle.card.specs.Meanings.{meaning}
-use Rattle.card.specs.Card.{statusAll, statusBy, statusOf, effectOn, ruled, has, names, namesBy, concerns, concernsBy, touched, after, answer, step, run, trace}
-use Rattle.card.specs.Demands.{alone, toAllBy, toAll, owns, own, OwnRecord, lived, ByRules, OwnAnswers, Joined, raises, noneCleared, raised, pending, pendingIds, Listed, PickedIds, Aggregate, Rising, InOrder, Swapped, Swap, SwappedWithin, SwapWithin}
+use Rattle.card.specs.Card.{statusAll, statusBy, statusOf, effectOn, ruled, has, names, namesBy, concerns, concernsBy, touched, after, answer, run, trace}
+use Rattle.card.specs.Demands.{alone, toAllBy, toAll, owns, own, OwnRecord, lived, ByRules, OwnAnswers, Joined, raises, noneCleared, raised, pending, Listed, PickedIds, Aggregate, Rising, InOrder, Swap, SwapWithin}
 use Rattle.card.proofs.Lists.{if-ap, if-cons, map-id, map-same, map-same-if, nth-map, keep-same, keep-map, first-map, first-fixed}
 use Rattle.card.proofs.Shapes.{bool-cases, named, unnamed, answers, fewer-all, fewer, touched-own, touched-not, keeps}
 use Rattle.card.proofs.Slots.{ordered, found}

@@ -1,11 +1,11 @@
 -- From a legal table, every item leaves a legal table; and the table holds the card that the step leaves.
-use mathlib.Core.Path.{_≡_, refl, sym, ap, _∙_}
-use mathlib.Core.Bool.{Bool, true, false, _&&_}
+use mathlib.Core.Path.{_≡_, refl, _∙_}
+use mathlib.Core.Bool.{Bool, true, false}
 use mathlib.Core.List.{List, [], _∷_, map}
-use mathlib.Core.Logic.{_⊎_, inl, inr, ⊎-elim}
+use mathlib.Core.Logic.{_⊎_, ⊎-elim}
 use Prim.Native.Nat.{ℕ}
 use borrow.Author.Tests.{eqb-true, lt-ltb}
-use lib.Dec.{eqb, ltb}
+use lib.Dec.{eqb}
 use lib.ListN.{length, length-map}
 use Rattle.record.specs.declared.Attributes.{Attributes}
 use Rattle.record.specs.declared.State.{State}
@@ -13,10 +13,10 @@ use Rattle.record.specs.declared.Record.{Record}
 use Rattle.record.specs.Legal.{legalAttributes, legalState, legalRecord, KeepsState}
 use Rattle.rules.specs.Rules as rules
 use Rattle.rules.proofs.Keeps.{keeps-record, read-event-keeps, write-event-keeps, excursion-keeps, tick-keeps, configure-keeps, selecting-keeps}
-use Rattle.table.specs.Table.{idOf, recordsOf, legalSets, legalTable, Legal}
+use Rattle.table.specs.Table.{idOf, recordsOf, legalSets, legalTable}
 use Rattle.table.proofs.Known.{legal-known, sets-known}
 use Rattle.table.proofs.Written.{legal-sized, written-back, written-legal}
-use Rattle.card.specs.Items.{Card, Item, reads, writes, excursion, tick, command, Meaning, Nobody, Everybody, The}
+use Rattle.card.specs.Items.{Item, reads, writes, excursion, tick, command, Meaning, Nobody, Everybody, The}
 use Rattle.octets.specs.Choice.{if_then_else_}
 use Rattle.pages.specs.Features.{configIn}
 use Rattle.card.specs.declared.commands.Command.{Command}
@@ -25,11 +25,11 @@ use Rattle.card.specs.declared.commands.Kind.the-variants.{SetConfig, Se
 use Rattle.card.specs.Commands.{enable, windowCause, retain, kindOf, commandIn}
 use Rattle.card.specs.Commanded.{meaningBy, commandMeaning}
 use Rattle.card.specs.Meanings.{meaning}
-use Rattle.card.specs.Card.{statusAt, effectBy, effectOn, ruled, concerns, touched, after, step}
+use Rattle.card.specs.Card.{statusAt, effectBy, effectOn, concerns, touched, after, step}
 use Rattle.card.specs.Words.{cardOf, stepWords}
 use Rattle.card.proofs.Shapes.{bool-cases, touched-own, touched-not, keeps}
 use Rattle.card.proofs.Slots.{ordered}
-use Rattle.card.proofs.Frame.{step-bad, step-legal, length-records}
+use Rattle.card.proofs.Frame.{step-legal, length-records}
 
 -- what is to be shown of each item: its rule keeps a state legal, where it is carried out
 abbrev Sound : Meaning → Type 0

@@ -16,3 +16,6 @@ pub mod Carried
 pub mod Naming
 pub mod Whole
 pub mod Viewing
+pub mod Plain
+pub mod Firm
+pub mod Exact

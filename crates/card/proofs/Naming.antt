@@ -1,20 +1,18 @@
 -- Commands that name a set, from the step to the words and the answer buffer.
-use mathlib.Core.Path.{_≡_, refl, sym, ap, subst, _∙_}
+use mathlib.Core.Path.{_≡_, refl, sym, _∙_}
 use mathlib.Core.Bool.{Bool, true, false}
 use mathlib.Core.List.{List, [], _∷_, _++_}
-use mathlib.Core.Logic.{_⊎_, inl, inr, ⊎-elim}
-use Prim.Native.Nat.{ℕ, _+_, _≤_}
+use Prim.Native.Nat.{ℕ, _+_}
 use native.Mathlib.Omega.{arith}
-use borrow.Author.Tests.{eqb-true, eqb-false, eq-eqb, ne-eqb}
+use borrow.Author.Tests.{eqb-true, eqb-false}
 use lib.Dec.{eqb}
 use lib.ListN.{length}
-use Rattle.octets.specs.Choice.{if_then_else_}
 use Rattle.record.specs.declared.Slot.{Slot}
 use Rattle.record.specs.declared.Record.{Record}
 use Rattle.replies.specs.declared.Reply.{Reply}
 use Rattle.replies.specs.Numbers.{badTable}
 use Rattle.replies.specs.Status.{line, firstOf}
-use Rattle.replies.specs.Answers.{Answer, refused, refusing, Replied}
+use Rattle.replies.specs.Answers.{refusing}
 use Rattle.replies.proofs.Rows.{passed}
 use Rattle.table.specs.declared.Entry.{Entry}
 use Rattle.table.specs.declared.Entry.the-variants.{Bad, Unknown, Here}
@@ -27,9 +25,8 @@ use Rattle.card.specs.Items.{Item, The}
 use Rattle.card.specs.StatusTable.{earlyLines, unknownNumber}
 use Rattle.card.specs.Commanded.{namedBy, named}
 use Rattle.card.specs.Meanings.{meaning}
-use Rattle.card.specs.Words.{stepWords, Answered}
-use Rattle.card.specs.OnSet.{statusOn, answerOn, tableOn, OnSet}
-use Rattle.card.proofs.Shapes.{bool-cases}
+use Rattle.card.specs.Words.{Answered}
+use Rattle.card.specs.OnSet.{statusOn, OnSet}
 use Rattle.card.proofs.Frame.{step-bad, step-unknown, step-late, step-done}
 use Rattle.card.proofs.Carried.{refused-reply}
 
@@ -39,7 +36,7 @@ answered-bad ws i before x e ex =
     let d = step-bad ws i e in
     record { table = rw d; reply = rw (d, ex) (refused-reply badTable before) }
 
-unknown-not-zero : (c : Command) → firstOf (earlyLines c ++ line true unknownNumber ∷ []) ≡ 0 → ⊥
+pub unknown-not-zero : (c : Command) → firstOf (earlyLines c ++ line true unknownNumber ∷ []) ≡ 0 → ⊥
 unknown-not-zero c z =
     let n = passed (earlyLines c ++ line true unknownNumber ∷ []) refl z in
     let t : true ≡ false = n .1 .1 .1 .1 .1 .1 .0 in

@@ -1,25 +1,24 @@
 -- Set-up: a turn of its loops, its refusals, and that what it leaves is a legal table of the new sets.
 use mathlib.Core.Path.{_≡_, refl, sym, ap, _∙_}
-use mathlib.Core.Bool.{Bool, true, false, not, _&&_, and-true}
+use mathlib.Core.Bool.{Bool, true, false, _&&_, and-true}
 use mathlib.Core.List.{List, [], _∷_, map}
-use Prim.Native.Nat.{ℕ, zero, suc, _+_, _-_, _*_, _/_, _%_, _≤_, _<_}
+use Prim.Native.Nat.{ℕ, zero, suc, _+_, _-_, _*_, _≤_, _<_}
 use native.Mathlib.Omega.{arith}
 use native.Mathlib.Nat.{sub-zero}
 use native.Mathlib.Numerals.{add-one}
 use borrow.Author.Tests.{eqb-true, eqb-false, ne-eqb, eq-eqb, not-false, leb-true, ltb-false, le-leb}
-use lib.Dec.{eqb, ltb, leb}
-use lib.ListN.{length, getD, set, length-map, length-set}
+use lib.Dec.{eqb, leb}
+use lib.ListN.{length, set, length-set}
 use lib.Seq.{getD-set-same}
 use Rattle.octets.specs.Choice.{if_then_else_}
 use Rattle.octets.proofs.Tests.{both, together}
 use Rattle.record.specs.declared.Attributes.{Attributes}
 use Rattle.record.specs.declared.Record.{Record}
 use Rattle.record.specs.Legal.{maxSets, inRange, legalAttributes, legalRecord}
-use Rattle.replies.specs.Status.{firstOf, NoneHolds}
 use Rattle.replies.proofs.Rows.{passed}
 use Rattle.table.specs.Layout.{wordsOf}
-use Rattle.table.specs.Table.{count, rowStart, put, idOf, recordsOf, legalSets, sized, legalTable, writtenFrom, written}
-use Rattle.table.proofs.Written.{written-back, written-legal, written-rest}
+use Rattle.table.specs.Table.{count, rowStart, put, recordsOf, legalSets, sized, legalTable, writtenFrom, written}
+use Rattle.table.proofs.Written.{written-back, written-legal}
 use Rattle.pages.specs.Bodies.{bodySize, attributesIn}
 use Rattle.replies.specs.Answers.{granted, refused}
 use Rattle.card.specs.Words.{Result}

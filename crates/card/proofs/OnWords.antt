@@ -1,8 +1,8 @@
 -- From the step to the words: a lent table that is handed from item to item, and what a refusal leaves of it.
 use mathlib.Core.Path.{_≡_, refl, sym, ap, _∙_}
-use mathlib.Core.Bool.{Bool, true, false}
+use mathlib.Core.Bool.{true}
 use mathlib.Core.List.{List, [], _∷_, _++_}
-use mathlib.Core.Logic.{_⊎_, inl, inr, ⊎-elim}
+use mathlib.Core.Logic.{_⊎_, inl, ⊎-elim}
 use Prim.Native.Nat.{ℕ, suc, _<_}
 use native.Mathlib.Omega.{arith}
 use borrow.Author.Tests.{ne-eqb}
@@ -16,8 +16,8 @@ use Rattle.table.proofs.Known.{legal-known}
 use Rattle.table.proofs.Written.{written-own}
 use Rattle.card.specs.Items.{Card, Item}
 use Rattle.card.specs.Card.{statusOf, after, answer, run, trace}
-use Rattle.card.specs.Words.{cardOf, Result, stepWords}
-use Rattle.card.specs.Demands.{Refused, statusWords, RefusedWords, runWords, traceWords, RanWords, WordsRun, WordsTrace, SwappedWords, WordsSwap}
+use Rattle.card.specs.Words.{cardOf, stepWords}
+use Rattle.card.specs.Demands.{Refused, RefusedWords, runWords, traceWords, WordsRun, WordsTrace, WordsSwap}
 use Rattle.card.proofs.Lists.{sets-over}
 use Rattle.card.proofs.Shapes.{bool-cases}
 use Rattle.card.proofs.Slots.{refused-answer, refused-sets}

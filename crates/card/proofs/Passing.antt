@@ -11,7 +11,7 @@ use Rattle.octets.specs.Octets.{padded}
 use Rattle.record.specs.declared.Attributes.{Attributes}
 use Rattle.record.specs.declared.State.{State}
 use Rattle.record.specs.declared.Record.{Record}
-use Rattle.replies.specs.Status.{firstOf, NoneHolds}
+use Rattle.replies.specs.Status.{firstOf}
 use Rattle.replies.specs.Answers.{granted}
 use Rattle.replies.proofs.Rows.{passed}
 use Rattle.pages.specs.Aggregate.{aggregateSize}
@@ -22,7 +22,7 @@ use Rattle.pages.proofs.Numbers.{length-place}
 use Rattle.card.specs.declared.commands.Command.{Command}
 use Rattle.card.specs.declared.commands.Kind.{Kind}
 use Rattle.card.specs.declared.commands.Kind.the-variants.{SetConfig, SetWindow, GetConfig, GetWindow, ReadLatency, ReadAggregate, Identify}
-use Rattle.card.specs.Commands.{isLog, isSet, isGet, chosen, select, offset, dwords, configFid, latencyPageNo, kindBy, kindOf, needsIn, needsOut, logSize}
+use Rattle.card.specs.Commands.{isLog, isSet, isGet, chosen, select, offset, configFid, latencyPageNo, kindBy, kindOf, needsIn, needsOut, logSize}
 use Rattle.card.specs.StatusTable.{partWrong, earlyLines, shortLine, lateLines}
 use Rattle.card.specs.Commanded.{isNamed, modeNo, doneBy, dwordBy, pageBy, fromBy}
 

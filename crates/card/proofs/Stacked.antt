@@ -1,11 +1,10 @@
 -- The status of two tables, one above the other, from the status of each.
 use mathlib.Core.Path.{_≡_, refl, sym, _∙_}
-use mathlib.Core.Bool.{true}
 use mathlib.Core.List.{List, _++_}
 use Prim.Native.Nat.{ℕ}
 use lib.Dec.{eqb}
 use Rattle.octets.specs.Choice.{if_then_else_}
-use Rattle.replies.specs.Status.{Line, firstOf, numbered}
+use Rattle.replies.specs.Status.{Line, firstOf}
 use Rattle.replies.proofs.Rows.{first-append}
 use Rattle.card.specs.declared.commands.Command.{Command}
 use Rattle.card.specs.StatusTable.{earlyLines}

@@ -1,12 +1,11 @@
 -- Commands that name no set, from the step to the words and the answer buffer.
 use mathlib.Core.Path.{_≡_, refl, sym, ap, subst, _∙_}
 use mathlib.Core.Bool.{Bool, true, false}
-use mathlib.Core.List.{List, [], _∷_, _++_, map}
+use mathlib.Core.List.{List, [], _∷_, _++_}
 use Prim.Native.Nat.{ℕ}
 use lib.Dec.{eqb}
 use lib.ListN.{length}
 use Rattle.octets.specs.Octets.{padded}
-use Rattle.record.specs.declared.Record.{Record}
 use Rattle.replies.specs.declared.Reply.{Reply}
 use Rattle.replies.specs.Status.{firstOf}
 use Rattle.replies.specs.Answers.{Answer, answered, Replied}
@@ -19,13 +18,13 @@ use Rattle.record.specs.declared.Attributes.{Attributes}
 use Rattle.card.specs.declared.commands.Command.{Command}
 use Rattle.card.specs.declared.commands.Kind.{Kind}
 use Rattle.card.specs.declared.commands.Kind.the-variants.{SetConfig, SetWindow, GetConfig, GetWindow, ReadLatency, ReadAggregate, Identify}
-use Rattle.card.specs.Items.{Card, Item, command, Meaning, Nobody, The}
+use Rattle.card.specs.Items.{Card, Item, command, Nobody, The}
 use Rattle.card.specs.Commands.{isSet, isGet, isLog, chosen, configFid, latencyPageNo, kindBy, kindOf, commandIn}
 use Rattle.card.specs.StatusTable.{earlyLines, shortLine}
 use Rattle.card.specs.Commanded.{isNamed, namedBy, named, viewed, aggregateOf, setListOf, meaningBy, commandMeaning}
 use Rattle.card.specs.Meanings.{meaning}
-use Rattle.card.specs.Card.{concerns, touched, after, answer}
-use Rattle.card.specs.Words.{cardOf, stepWords, Answered}
+use Rattle.card.specs.Card.{concerns, after, answer}
+use Rattle.card.specs.Words.{cardOf, Answered}
 use Rattle.card.proofs.Lists.{map-fixed}
 use Rattle.card.proofs.Shapes.{touched-not}
 use Rattle.card.proofs.Frame.{step-legal}

@@ -1,22 +1,19 @@
 -- The pages of the whole card: the identifiers and marks of all sets, and a turn of Identify's loop.
-use mathlib.Core.Path.{_≡_, refl, sym, ap, subst, _∙_}
-use mathlib.Core.Bool.{Bool}
-use mathlib.Core.List.{List, [], _∷_, map, map-map}
+use mathlib.Core.Path.{_≡_, sym, ap, _∙_}
+use mathlib.Core.List.{List, _∷_, map}
 use Prim.Native.Nat.{ℕ, _+_, _-_, _*_, _^_, _≤_, _<_}
 use native.Mathlib.Omega.{arith}
 use native.Mathlib.Nat.{sub-zero}
-use lib.ListN.{length, take, replicate, length-map, length-replicate}
+use lib.ListN.{length, take, replicate, length-map}
 use lib.Seq.{sets}
 use Rattle.octets.proofs.Runs.{part-same}
 use Rattle.record.specs.declared.Attributes.{Attributes}
-use Rattle.record.specs.declared.Record.{Record}
-use Rattle.record.specs.Events.{wordOf}
 use Rattle.record.specs.Legal.{maxSets}
 use Rattle.table.specs.Layout.{recordOf}
-use Rattle.table.specs.Table.{count, rowStart, row, idOf, recordsOf, Legal, listedMarks, listedWord}
+use Rattle.table.specs.Table.{count, row, idOf, recordsOf, Legal, listedMarks, listedWord}
 use Rattle.table.proofs.Turns.{later, later-none, later-more, later-all}
-use Rattle.pages.specs.Aggregate.{picked, listedBy, aggregatePage}
-use Rattle.pages.specs.Identify.{entrySize, firstEntry, shown, Shows}
+use Rattle.pages.specs.Aggregate.{listedBy, aggregatePage}
+use Rattle.pages.specs.Identify.{entrySize, firstEntry, Shows}
 use Rattle.pages.proofs.Listed.{word-below, listed-marks}
 use Rattle.pages.proofs.Entries.{Showing, show-start, show-room, show-turn, show-end}
 use Rattle.card.specs.Commanded.{listedIds}

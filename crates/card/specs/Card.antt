@@ -12,12 +12,12 @@ use Rattle.record.specs.declared.Record.{Record}
 use Rattle.record.specs.declared.Effect.{Effect}
 use Rattle.record.specs.Events.{settled}
 use Rattle.replies.specs.Numbers.{tooShort}
-use Rattle.replies.specs.Status.{Line, line, firstOf}
+use Rattle.replies.specs.Status.{line, firstOf}
 use Rattle.replies.specs.Answers.{Answer, granted, refused}
 use Rattle.rules.specs.Rules.{still}
 use Rattle.table.specs.Table.{idOf}
 use Rattle.card.specs.Lists.{first, join}
-use Rattle.card.specs.Items.{Card, Item, One, All, View, Meaning, Nobody, Everybody, The}
+use Rattle.card.specs.Items.{Card, Item, One, All, Meaning, Nobody, Everybody, The}
 use Rattle.card.specs.Meanings.{meaning}
 
 -- ---- the status: the first refusal that holds, or 0

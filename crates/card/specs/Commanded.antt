@@ -1,5 +1,5 @@
 -- What a command does and answers where no row of the status table refuses it.
-use mathlib.Core.Bool.{Bool, true, false, not}
+use mathlib.Core.Bool.{Bool, true, false}
 use mathlib.Core.List.{List, [], _∷_, _++_, map}
 use Prim.Native.Nat.{ℕ, _*_}
 use lib.ListN.{length, replicate}
@@ -10,7 +10,6 @@ use Rattle.record.specs.declared.State.{State}
 use Rattle.record.specs.declared.Record.{Record}
 use Rattle.record.specs.declared.Effect.{Effect}
 use Rattle.record.specs.Window.{byWindow, windowNo}
-use Rattle.replies.specs.Status.{Line}
 use Rattle.replies.specs.Answers.{Answer, granted}
 use Rattle.rules.specs.Rules as rules
 use Rattle.table.specs.Table.{idOf, listedMarks}

@@ -1,11 +1,12 @@
 -- What is promised of the step over any list of items: demand 3, of demand 2 what features store, and demand 1 as far as it is
 -- one law for all items.
--- Each is proved under its name, in lower case and with dashes, in proofs/History.antt, proofs/Stored.antt and proofs/OnWords.antt.
+-- Each is proved under its name, in lower case and with dashes, in proofs/Exact.antt, proofs/Stored.antt,
+-- proofs/History.antt and proofs/OnWords.antt.
 -- But for page 0Bh and the features nothing here looks at a single item: an item names one set (`The`), goes to every set (`Everybody`) or to none (`Nobody`).
 use mathlib.Core.Path.{_≡_}
 use mathlib.Core.Bool.{Bool, true, false, not, _&&_, _||_}
 use mathlib.Core.List.{List, [], _∷_, _++_, map}
-use mathlib.Core.Option.{Option, some}
+use mathlib.Core.Option.{some}
 use Prim.Native.Nat.{ℕ, _*_, _<_}
 use lib.Dec.{eqb}
 use Rattle.octets.specs.Choice.{if_then_else_}
@@ -26,7 +27,7 @@ use Rattle.card.specs.declared.commands.Kind.the-variants.{SetConfig, Se
 use Rattle.card.specs.Commands.{commandIn, kindOf, featureSet, enable, windowValue, offset, dwords}
 use Rattle.card.specs.Meanings.{meaning}
 use Rattle.card.specs.Card.{effectOn, ruled, statusOf, names, answer, step, run, trace}
-use Rattle.card.specs.Words.{cardOf, Result, stepWords}
+use Rattle.card.specs.Words.{cardOf, stepWords}
 
 -- ==== demand 1: "with success or with the one refusal that document 01 names for that input"
 
@@ -43,6 +44,14 @@ statusWords ws i = if legalTable ws then statusOf (cardOf ws) i else badTable
 abbrev pub RefusedWords : Type 0
 RefusedWords =
     (ws : List ℕ) (i : Item) → (statusWords ws i ≡ 0 → ⊥) → stepWords ws i ≡ record { table = ws; answer = refused (statusWords ws i) }
+
+-- "the one refusal that document 01 names for that input", exactly then: the number that is answered is that of the first row
+-- that holds, and 0, success, where none does
+abbrev pub Exactly : Type 0
+Exactly = (c : Card) (i : Item) → answer c i .status ≡ statusOf c i
+
+abbrev pub ExactlyWords : Type 0
+ExactlyWords = (ws : List ℕ) (i : Item) → stepWords ws i .answer .status ≡ statusWords ws i
 
 -- ==== demand 3: "Start from any legal table and take any sequence of items, refused ones included, with no new set-up in it."
 -- Where a legal table is needed, `legalSets` says so. A set is the record in a slot, which keeps its place.

@@ -1,21 +1,18 @@
 // What a command does and answers, from its 64 bytes.
 ghost use mathlib.Core.Path.{_≡_};
 ghost use mathlib.Core.Bool.{true, false};
-ghost use mathlib.Core.List.{[], _∷_, map};
 ghost use Prim.Native.Nat.{_+_, _≤_};
 ghost use lib.ListN.{length};
 ghost use Rattle.octets.specs.Choice.{if_then_else_};
 ghost use Rattle.record.specs.Events.{settled};
 ghost use Rattle.replies.specs.Answers.{refusing, Replied};
-ghost use Rattle.table.specs.Table.{rowStart, Legal, recordsOf};
+ghost use Rattle.table.specs.Table.{rowStart};
 ghost use Rattle.record.specs.Window.{windowNo};
 ghost use Rattle.rules.specs.Rules.{still, clearingRead};
 ghost use Rattle.pages.specs.Latency.{latencySize};
-ghost use Rattle.pages.specs.Identify.{identifyPage};
-ghost use Rattle.pages.specs.Aggregate.{aggregatePage};
 ghost use Rattle.card.specs.Items.{Item, Nobody, The};
-ghost use Rattle.card.specs.Commands.{kindOf, needsIn, needsOut, asked};
-ghost use Rattle.card.specs.Commanded.{isNamed, readRule, ruleBy, modeNo, doneBy, dwordBy, pageBy, fromBy, namedBy, named, listedIds, viewed, aggregateOf, setListOf};
+ghost use Rattle.card.specs.Commands.{kindOf, needsIn, needsOut};
+ghost use Rattle.card.specs.Commanded.{isNamed, readRule, ruleBy, modeNo, doneBy, dwordBy, pageBy, fromBy, namedBy, named, viewed, aggregateOf, setListOf};
 ghost use Rattle.card.specs.Meanings.{meaning};
 ghost use Rattle.card.specs.Words.{Answered, Handed};
 ghost use Rattle.card.specs.OnSet.{statusOn, OnSet};
@@ -117,11 +114,7 @@ fn window_word(s: State) -> u32
     ensures { λ r. ⌜ r ≡ windowNo (s .window) ⌝ }
 {
     let w = s.window;
-    match w {
-        Window::Off => 0,
-        Window::D => 1,
-        Window::N => 2,
-    }
+    window_no(w) as u32
 }
 
 fn dword_by(k: Kind, r: Record) -> u32

@@ -1,7 +1,5 @@
 // What a command's 64 bytes say.
 ghost use mathlib.Core.Path.{_≡_};
-ghost use mathlib.Core.Bool.{Bool};
-ghost use lib.Dec.{eqb};
 ghost use Rattle.card.specs.Commands.{commandIn, opcode, isLog, isIdentify, isSet, isGet, chosen, save, select, featureSet, enable, windowValue, causeBy, windowCause, retain, dwords, logSet, offset, asked, kindBy, kindOf, needsIn, needsOut, logSize};
 use pages::read::word;
 use rules::Cause;

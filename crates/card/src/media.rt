@@ -1,11 +1,9 @@
 // Media events and ticks.
 ghost use mathlib.Core.Path.{_≡_};
 ghost use mathlib.Core.List.{map};
-ghost use Prim.Native.Nat.{_≤_};
-ghost use lib.ListN.{length};
 ghost use Rattle.record.specs.Events.{settled};
 ghost use Rattle.rules.specs.Rules.{tick};
-ghost use Rattle.table.specs.Table.{count, rowStart, Legal, recordsOf, written};
+ghost use Rattle.table.specs.Table.{count, Legal, recordsOf, written};
 ghost use Rattle.card.specs.Items.{Item};
 ghost use Rattle.card.specs.Media.{effectOf, itemOf, tickOne};
 ghost use Rattle.card.specs.Words.{Stepped};

@@ -1,15 +1,12 @@
 // Set-up from 84-byte bodies.
 ghost use mathlib.Core.Path.{_≡_};
-ghost use mathlib.Core.Bool.{Bool, true, not};
+ghost use mathlib.Core.Bool.{true};
 ghost use mathlib.Core.List.{map};
 ghost use Prim.Native.Nat.{_+_, _*_, _≤_};
-ghost use lib.Dec.{ltb};
-ghost use lib.ListN.{length, set};
-ghost use Rattle.record.specs.Legal.{legalRecord};
-ghost use Rattle.replies.specs.Status.{firstOf};
-ghost use Rattle.table.specs.Table.{idOf, rowStart, legalSets, written};
-ghost use Rattle.pages.specs.Bodies.{bodySize, attributesIn};
-ghost use Rattle.card.specs.SetUp.{newState, newRecord, followsOf, attributesFrom, bodies, newSets, setUpStatus, SetUp};
+ghost use lib.ListN.{length};
+ghost use Rattle.table.specs.Table.{rowStart, legalSets, written};
+ghost use Rattle.pages.specs.Bodies.{bodySize};
+ghost use Rattle.card.specs.SetUp.{newState, newRecord, followsOf, attributesFrom, setUpStatus, SetUp};
 use pages::bodies::attributes_in;
 use record::Attributes;
 use record::Config;

@@ -1,6 +1,6 @@
 // 01's status table, for every command.
 ghost use mathlib.Core.Path.{_≡_};
-ghost use mathlib.Core.Bool.{Bool, true, _||_};
+ghost use mathlib.Core.Bool.{true, _||_};
 ghost use mathlib.Core.List.{[], _∷_, _++_};
 ghost use lib.Dec.{eqb, ltb};
 ghost use Rattle.octets.specs.Choice.{if_then_else_};

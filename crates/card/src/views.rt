@@ -1,6 +1,5 @@
 // The pages of the whole card: 0Bh and Identify, from the table.
 ghost use mathlib.Core.Path.{_≡_};
-ghost use mathlib.Core.List.{map};
 ghost use Prim.Native.Nat.{_+_, _*_, _≤_};
 ghost use lib.ListN.{length};
 ghost use Rattle.table.specs.Layout.{recordOf};

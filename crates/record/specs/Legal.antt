@@ -2,7 +2,7 @@
 -- and there are no unused bits: a record's types leave no other choice.
 use mathlib.Core.Path.{_≡_}
 use Prim.Native.Nat.{ℕ}
-use mathlib.Core.Bool.{Bool, true, false, not, _&&_, _||_}
+use mathlib.Core.Bool.{Bool, true, not, _&&_, _||_}
 use lib.Dec.{leb, ltb, eqb}
 use Rattle.record.specs.declared.Capacity.{Capacity}
 use Rattle.record.specs.declared.Attributes.{Attributes}

@@ -1,7 +1,6 @@
 // Estimates, warnings, and the one place that writes events and the listed mark.
 ghost use mathlib.Core.Path.{_≡_};
 ghost use Prim.Native.Nat.{_<_, _≤_};
-ghost use mathlib.Core.Bool.{Bool};
 ghost use Rattle.record.specs.Events.{estimate, bit, bitsOf, eventsIn, eventsOf, noEvents, warning, warns, startsBelow, enteringD, andExceeded, anExcursion, anyEnabled, joined, settled};
 use crate::Attributes;
 use crate::Config;

@@ -1,6 +1,6 @@
 -- What a status and a buffer say together, over plain variables.
 use mathlib.Core.Path.{_≡_, refl, sym, ap, _∙_}
-use mathlib.Core.List.{List, []}
+use mathlib.Core.List.{List}
 use Prim.Native.Nat.{ℕ, zero, suc, _≤_}
 use native.Mathlib.Nat.{sub-zero}
 use native.Mathlib.Omega.{arith}
@@ -10,7 +10,7 @@ use lib.Seq.{sets, length-sets}
 use Rattle.octets.specs.Octets.{padded}
 use Rattle.octets.proofs.Runs.{part-same}
 use Rattle.replies.specs.declared.Reply.{Reply}
-use Rattle.replies.specs.Answers.{Answer, answered, granted, refused, Replied}
+use Rattle.replies.specs.Answers.{Answer, answered, granted, Replied}
 
 pub length-padded : (l : List ℕ) (at n : ℕ) → length (padded l at n) ≡ n
 length-padded l at zero = refl

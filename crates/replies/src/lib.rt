@@ -1,6 +1,6 @@
 // What a command answers: the first row of a status table that holds refuses it; else data goes out, in one way.
 ghost use mathlib.Core.Path.{_≡_};
-ghost use Prim.Native.Nat.{ℕ, _≤_};
+ghost use Prim.Native.Nat.{_≤_};
 ghost use lib.ListN.{length};
 ghost use Rattle.octets.specs.Octets.{padded};
 ghost use Rattle.replies.specs.Status.{firstOf, linesOf};

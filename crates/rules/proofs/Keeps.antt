@@ -1,10 +1,10 @@
 -- Every rule keeps a legal set legal.
-use mathlib.Core.Path.{_≡_, refl, sym, _∙_}
-use mathlib.Core.Bool.{Bool, true, false, not, _&&_, _||_}
-use Prim.Native.Nat.{ℕ, _+_, _-_, _≤_, _<_, min}
+use mathlib.Core.Path.{_≡_, refl}
+use mathlib.Core.Bool.{Bool, true, false, _&&_}
+use Prim.Native.Nat.{ℕ, _+_, _-_, _≤_, min}
 use native.Mathlib.Omega.{arith}
 use lib.Dec.{ltb, leb, eqb}
-use borrow.Author.Tests.{leb-true, ltb-true, eqb-true, le-leb, lt-ltb, leb-false, ltb-false}
+use borrow.Author.Tests.{leb-true, le-leb, lt-ltb, leb-false, ltb-false}
 use Rattle.octets.specs.Choice.{if_then_else_}
 use Rattle.octets.proofs.Tests.{and-left, and-right, both, together}
 use Rattle.record.specs.declared.Attributes.{Attributes}
@@ -16,14 +16,12 @@ use Rattle.record.specs.declared.Quantity.{Quantity}
 use Rattle.record.specs.declared.Quantity.the-variants.{Reads, Writes, Time}
 use Rattle.record.specs.declared.Config.{Config}
 use Rattle.record.specs.declared.State.{State}
-use Rattle.record.specs.declared.Record.{Record}
 use Rattle.record.specs.declared.Effect.{Effect}
-use Rattle.record.specs.Record.{limit, spent, need, stateOf, afresh, spending, recovering}
+use Rattle.record.specs.Record.{limit, spent, need, afresh, spending}
 use Rattle.record.specs.Window.{byWindow, sameWindow}
 use Rattle.rules.specs.Changes.{movedBy}
-use Rattle.rules.specs.Rules.{still, configure, entered, selecting, causeOfMode, isOver, causeOver, carried, charge, onlyInD, readEvent, writeEvent, excursionEvent, tick, recovery, clearingRead}
-use Rattle.record.specs.Events.{settled}
-use Rattle.record.specs.Legal.{inRange, legalAttributes, noneSpent, withinLimits, legalState, legalNotes, legalRecord, KeepsState, KeepsRecord}
+use Rattle.rules.specs.Rules.{still, configure, entered, selecting, causeOfMode, isOver, causeOver, carried, charge, readEvent, writeEvent, excursionEvent, tick, recovery, clearingRead}
+use Rattle.record.specs.Legal.{legalAttributes, noneSpent, withinLimits, legalState, legalNotes, KeepsState, KeepsRecord}
 use Rattle.record.proofs.Marks.{notes-kept}
 
 -- of three tests that hold together
@@ -49,11 +47,11 @@ Sound a e = legalState a (e .state) ≡ true
 time-positive : (a : Attributes) → legalAttributes a ≡ true → 1 ≤ a .«time_maximum»
 time-positive a h = search (and-left, and-right, leb-true) depth 12
 
-module _ (a : Attributes) (c : Config) where
-  in-n : (n : ℕ) → n ≤ need a → legalState a (stateOf N c 0 0 0 n) ≡ true
+module _ (a : Attributes) (s : State) where
+  in-n : (n : ℕ) → n ≤ need a → legalState a (afresh s N n) ≡ true
   in-n n h = le-leb n (need a) h
 
-  anew : (w : Window) → legalAttributes a ≡ true → legalState a (stateOf w c 0 0 0 0) ≡ true
+  anew : (w : Window) → legalAttributes a ≡ true → legalState a (afresh s w 0) ≡ true
   anew Off h = refl
   anew D h =
       rw (le-leb 0 (a .«reads_typical») (omega arith), le-leb 0 (a .«writes_typical») (omega arith), lt-ltb 0 (a .«time_maximum») (omega (arith, time-positive a h)))
@@ -62,7 +60,7 @@ module _ (a : Attributes) (c : Config) where
 -- the other rules that start a window: enable, disable, select, excursion
 
 pub configure-keeps : (on : Bool) (c : Config) → KeepsState (λ a s. configure on c s)
-configure-keeps on c a s h l = anew a c (movedBy (s .window) (causeOfMode on)) h
+configure-keeps on c a s h l = anew a s (movedBy (s .window) (causeOfMode on)) h
 
 by-test : (b : Bool) (a : Attributes) (e f : Effect) → (b ≡ true → Sound a e) → (b ≡ false → Sound a f) → Sound a (if b then e else f)
 by-test true a e f p q = p refl
@@ -71,7 +69,7 @@ by-test false a e f p q = q refl
 pub selecting-keeps : (c : Cause) → KeepsState (selecting c)
 selecting-keeps c a s h l =
     let w = movedBy (s .window) c in
-    by-test (sameWindow w (s .window)) a (still s) (entered w a s) (λ t. l) (λ t. anew a (s .config) w h)
+    by-test (sameWindow w (s .window)) a (still s) (entered w a s) (λ t. l) (λ t. anew a s w h)
 
 -- ---- what each window does with an item
 
@@ -81,13 +79,13 @@ by-window D a e f g p q r = q refl
 by-window N a e f g p q r = r refl
 
 pub excursion-keeps : KeepsState (λ a s. excursionEvent s)
-excursion-keeps a s h l = by-window (s .window) a _ _ _ l (λ e. anew a (s .config) (movedBy (s .window) Excursion) h) (λ e. l)
+excursion-keeps a s h l = by-window (s .window) a _ _ _ l (λ e. anew a s (movedBy (s .window) Excursion) h) (λ e. l)
 
 -- out of D by exceeded or time up: what is carried over is at most the need
-left-d : (q : Quantity) (a : Attributes) (c : Config) (n : ℕ) (w : Window) → w ≡ D → legalState a (stateOf (movedBy w (causeOver q)) c 0 0 0 (carried q a n)) ≡ true
-left-d Reads a c n w e = rw e (in-n a c 0 (omega arith))
-left-d Writes a c n w e = rw e (in-n a c 0 (omega arith))
-left-d Time a c n w e = rw e (in-n a c (min (n - a .«time_maximum») (need a)) (omega arith))
+left-d : (q : Quantity) (a : Attributes) (s : State) (n : ℕ) (w : Window) → w ≡ D → legalState a (afresh s (movedBy w (causeOver q)) (carried q a n)) ≡ true
+left-d Reads a s n w e = rw e (in-n a s 0 (omega arith))
+left-d Writes a s n w e = rw e (in-n a s 0 (omega arith))
+left-d Time a s n w e = rw e (in-n a s (min (n - a .«time_maximum») (need a)) (omega arith))
 
 -- what a legal state in D is
 record InD (a : Attributes) (s : State) : Type 0 where
@@ -112,7 +110,7 @@ stays-d Time a s n e i o = rw (e, i .reads, i .writes, lt-ltb n (a .«time_maxim
 charge-keeps : (q : Quantity) (k : ℕ) (a : Attributes) (s : State) → s .window ≡ D → legalState a s ≡ true → Sound a (charge q k a s)
 charge-keeps q k a s e l =
     let n = spent q s + k in
-    by-test (isOver q (limit q a) n) a _ _ (λ o. left-d q a (s .config) n (s .window) e) (λ o. stays-d q a s n e (in-d a s e l) o)
+    by-test (isOver q (limit q a) n) a _ _ (λ o. left-d q a s n (s .window) e) (λ o. stays-d q a s n e (in-d a s e l) o)
 
 pub read-event-keeps : (k : ℕ) → KeepsState (readEvent k)
 read-event-keeps k a s h l = by-window (s .window) a _ _ _ l (λ e. charge-keeps Reads k a s e l) (λ e. l)

@@ -1,9 +1,8 @@
 -- What 01's words on warnings come to.
 use mathlib.Core.Path.{_≡_, refl}
-use mathlib.Core.Bool.{Bool, true, false, _&&_, and-false, and-true}
+use mathlib.Core.Bool.{Bool, true, false, and-false, and-true}
 use Prim.Native.Nat.{ℕ, _+_, _-_, _<_}
 use native.Mathlib.Omega.{arith}
-use lib.Dec.{ltb, leb}
 use borrow.Author.Tests.{le-ltb, lt-ltb, lt-leb}
 use Rattle.octets.specs.Choice.{if_then_else_}
 use Rattle.record.specs.declared.Attributes.{Attributes}
@@ -11,11 +10,10 @@ use Rattle.record.specs.declared.Quantity.{Quantity}
 use Rattle.record.specs.declared.Quantity.the-variants.{Reads, Writes, Time}
 use Rattle.record.specs.declared.Config.{Config}
 use Rattle.record.specs.declared.State.{State}
-use Rattle.record.specs.declared.Events.{Events}
 use Rattle.record.specs.declared.Effect.{Effect}
 use Rattle.record.specs.Record.{limit, spent, threshold, enables}
 use Rattle.record.specs.Events.{leftOf, warning, warns, startsBelow, andExceeded}
-use Rattle.rules.specs.Rules.{isOver, charge, leaving, noting}
+use Rattle.rules.specs.Rules.{isOver, charge}
 
 module _ (q : Quantity) (a : Attributes) (c : Config) where
   -- threshold 0 never warns: no estimate is below it

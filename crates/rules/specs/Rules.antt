@@ -8,7 +8,7 @@ use Rattle.record.specs.declared.Attributes.{Attributes}
 use Rattle.record.specs.declared.Window.{Window}
 use Rattle.record.specs.declared.Window.the-variants.{D, N}
 use Rattle.rules.specs.declared.Cause.{Cause}
-use Rattle.rules.specs.declared.Cause.the-variants.{Enable, Disable, SelectD, SelectN, Excursion, Exceeded, TimeUp}
+use Rattle.rules.specs.declared.Cause.the-variants.{Enable, Disable, Excursion, Exceeded, TimeUp}
 use Rattle.record.specs.declared.Quantity.{Quantity}
 use Rattle.record.specs.declared.Quantity.the-variants.{Reads, Writes, Time}
 use Rattle.record.specs.declared.Config.{Config}

@@ -2,24 +2,23 @@
 use mathlib.Core.Path.{_≡_, refl, sym, ap, _∙_}
 use mathlib.Core.Bool.{Bool, true, false, _&&_, and-true, and-false}
 use mathlib.Core.List.{List, [], _∷_, map}
-use Prim.Native.Nat.{ℕ, zero, suc, _+_, _*_, _≤_, _<_}
+use Prim.Native.Nat.{ℕ, zero, suc, _≤_, _<_}
 use native.Mathlib.Omega.{arith}
 use native.Mathlib.Nat.{not-suc-le-zero, zero-add}
 use borrow.Author.Tests.{leb-true, le-leb, lt-leb}
 use lib.Dec.{ltb, leb}
 use lib.ListN.{length, getD, List·getD-eq-default}
-use Rattle.octets.proofs.Tests.{both, together}
+use Rattle.octets.proofs.Tests.{both}
 use Rattle.record.specs.declared.Record.{Record}
 use Rattle.record.specs.Legal.{inRange, legalRecord}
 use Rattle.octets.specs.Choice.{if_then_else_}
 use Rattle.record.specs.declared.Slot.{Slot}
 use Rattle.table.specs.declared.Found.{Found}
 use Rattle.table.specs.declared.Found.the-variants.{At, Nothing}
-use Rattle.table.specs.declared.Entry.{Entry}
 use Rattle.table.specs.declared.Entry.the-variants.{Bad, Unknown, Here}
 use Rattle.table.specs.Layout.{wordsOf, recordOf}
 use Rattle.record.specs.Legal.{maxSets}
-use Rattle.table.specs.Table.{count, rowStart, row, rowsFrom, rows, recordsOf, idOf, legalRow, legalAfter, legalRows, legalSets, sized, legalTable, Legal, findIn, entryOf, enterIn}
+use Rattle.table.specs.Table.{count, rowStart, row, rows, recordsOf, idOf, legalRow, legalAfter, legalRows, legalSets, sized, legalTable, Legal, findIn, entryOf, enterIn}
 use Rattle.table.proofs.Records.{Row, row-of, words-legal, record-back}
 use Rattle.table.proofs.Slots.{rows-at, length-rows}
 

@@ -1,25 +1,24 @@
 -- A legal row and its record determine each other.
-use mathlib.Core.Path.{_≡_, refl, sym, ap, _∙_}
-use mathlib.Core.Bool.{Bool, true, false, _&&_}
-use mathlib.Core.List.{List, [], _∷_}
-use Prim.Native.Nat.{ℕ, _%_, _^_, _≤_, _<_}
+use mathlib.Core.Path.{_≡_, refl}
+use mathlib.Core.Bool.{Bool, true, false}
+use mathlib.Core.List.{List}
+use Prim.Native.Nat.{ℕ, _%_, _^_, _≤_}
 use native.Mathlib.Omega.{arith}
 use native.Mathlib.Nat.{mod-eq-of-lt}
 use borrow.Author.Tests.{leb-true}
-use lib.Dec.{eqb, leb}
-use lib.ListN.{length, getD}
+use lib.Dec.{eqb}
+use lib.ListN.{length}
 use Rattle.octets.proofs.Tests.{and-left, and-right, both, together}
 use Rattle.record.specs.declared.Window.{Window}
 use Rattle.record.specs.declared.Window.the-variants.{Off, D, N}
 use Rattle.record.specs.declared.Attributes.{Attributes}
 use Rattle.record.specs.declared.Record.{Record}
-use Rattle.record.specs.Record.{stateOf}
 use Rattle.record.specs.Window.{windowNo}
 use Rattle.record.specs.Events.{bit}
-use Rattle.record.specs.Legal.{legalAttributes, legalState, legalNotes, legalRecord}
+use Rattle.record.specs.Legal.{legalAttributes, legalRecord}
 use Rattle.record.proofs.Bits.{events-back}
-use Rattle.table.specs.Layout.{rowWords, fieldsOf, wordsOf, windowIn, attributesAt, stateAt, notesAt, recordOf}
-use Rattle.table.specs.Table.{idOf, sameWords, legalRow, legalAfter}
+use Rattle.table.specs.Layout.{rowWords, wordsOf, windowIn, recordOf}
+use Rattle.table.specs.Table.{sameWords, legalRow}
 use Rattle.table.proofs.Words.{same-equal, same-self}
 
 pub length-words : (r : Record) → length (wordsOf r) ≡ rowWords

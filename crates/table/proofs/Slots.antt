@@ -1,16 +1,16 @@
 -- Putting a row into a slot: the slot holds it; every other slot, the header and the rest are as they were.
 -- Nothing here goes by the fields.
-use mathlib.Core.Path.{_≡_, refl, sym, ap, _∙_}
-use mathlib.Core.List.{List, [], _∷_}
+use mathlib.Core.Path.{_≡_, refl, ap, _∙_}
+use mathlib.Core.List.{List, []}
 use mathlib.Core.Logic.{_⊎_, inl, inr, ⊎-elim}
-use Prim.Native.Nat.{ℕ, zero, suc, _+_, _*_, _≤_, _<_}
+use Prim.Native.Nat.{ℕ, zero, suc, _+_, _≤_, _<_}
 use native.Mathlib.Omega.{arith}
 use native.Mathlib.Nat.{add-zero, add-suc, suc-add, not-suc-le-zero}
 use lib.ListN.{length, getD, drop, length-take, length-drop}
 use lib.Seq.{length-sets}
 use Rattle.octets.proofs.Runs.{getD-sets, drop-sets, part-same, part-other, sets-self}
 use Rattle.table.specs.Layout.{rowWords}
-use Rattle.table.specs.Table.{count, rowStart, row, put, rowsFrom, rows}
+use Rattle.table.specs.Table.{count, rowStart, row, put, rowsFrom}
 
 lt-or-gt : (i j : ℕ) → (i ≡ j → ⊥) → (i < j) ⊎ (j < i)
 lt-or-gt zero zero n = absurd (n refl)

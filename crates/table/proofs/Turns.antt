@@ -1,21 +1,21 @@
 -- A turn of each loop over the slots: what is left to do at slot i is the slot's own part and what is left at i + 1.
 use mathlib.Core.Path.{_≡_, refl, sym, ap, _∙_}
-use mathlib.Core.Bool.{Bool, true, false, _&&_}
+use mathlib.Core.Bool.{Bool, true, false}
 use mathlib.Core.List.{List, [], _∷_, map}
-use Prim.Native.Nat.{ℕ, zero, suc, _+_, _-_, _*_, _^_, _≤_, _<_}
+use Prim.Native.Nat.{ℕ, suc, _+_, _-_, _*_, _^_, _≤_, _<_}
 use native.Mathlib.Omega.{arith}
 use native.Mathlib.Numerals.{add-one}
 use native.Mathlib.Nat.{add-zero, sub-zero, pow-suc, pow-le-pow-right, lt-of-lt-of-le}
-use lib.Dec.{eqb, lit<, lit≤}
-use lib.ListN.{length, getD, set, take, drop}
+use lib.Dec.{lit<, lit≤}
+use lib.ListN.{getD, set, drop}
 use lib.Seq.{sets, getD-take, getD-drop}
 use borrow.Author.Tests.{eq-eqb, ne-eqb}
 use Rattle.record.specs.declared.Record.{Record}
-use Rattle.record.specs.Events.{bit, wordOf}
+use Rattle.record.specs.Events.{bit}
 use Rattle.table.specs.declared.Found.{Found}
 use Rattle.table.specs.declared.Found.the-variants.{At, Nothing}
 use Rattle.table.specs.Layout.{rowWords, wordsOf, recordOf}
-use Rattle.table.specs.Table.{count, rowStart, row, rowsFrom, rows, recordsOf, idOf, legalAfter, legalRows, Legal, findFrom, findIn, listedMarks, listedWord}
+use Rattle.table.specs.Table.{count, rowStart, row, rowsFrom, recordsOf, idOf, legalAfter, legalRows, Legal, findFrom, findIn, listedWord}
 use Rattle.table.proofs.Records.{Row}
 use Rattle.table.proofs.Known.{slot-known}
 

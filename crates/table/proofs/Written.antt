@@ -1,20 +1,20 @@
 -- Writing records back: what a legal table holds then, what the words past it hold, and what is read back.
 use mathlib.Core.Path.{_≡_, refl, sym, ap, ap₂, _∙_}
-use mathlib.Core.Bool.{Bool, true, false, _&&_}
+use mathlib.Core.Bool.{true, _&&_}
 use mathlib.Core.List.{List, [], _∷_, map}
-use Prim.Native.Nat.{ℕ, zero, suc, _+_, _-_, _*_, _≤_, _<_}
+use Prim.Native.Nat.{ℕ, zero, suc, _+_, _-_, _≤_, _<_}
 use native.Mathlib.Omega.{arith}
 use native.Mathlib.Nat.{zero-add, add-zero}
 use native.Mathlib.Numerals.{add-one}
 use lib.Dec.{ltb}
-use lib.ListN.{length, set, drop, length-map, length-set}
+use lib.ListN.{length, set, drop}
 use Rattle.octets.proofs.Tests.{both, together}
 use Rattle.record.specs.declared.Record.{Record}
 use Rattle.record.specs.Legal.{legalRecord}
-use Rattle.table.specs.Layout.{rowWords, wordsOf, recordOf}
-use Rattle.table.specs.Table.{count, rowStart, row, put, rowsFrom, rows, recordsOf, idOf, legalRows, legalSets, sized, legalTable, Legal, writtenFrom, written}
+use Rattle.table.specs.Layout.{wordsOf, recordOf}
+use Rattle.table.specs.Table.{count, rowStart, row, put, rowsFrom, rows, recordsOf, idOf, legalSets, sized, legalTable, Legal, writtenFrom, written}
 use Rattle.table.proofs.Records.{Row, length-words, record-back}
-use Rattle.table.proofs.Slots.{put-self, length-put, count-put, rest-put, row-same, row-other, rows-other, length-rows}
+use Rattle.table.proofs.Slots.{put-self, length-put, count-put, rest-put, row-same, row-other, rows-other}
 use Rattle.table.proofs.Known.{slot-known, rows-of-sets, sized-known}
 use Rattle.table.proofs.Turns.{later, later-none, later-more, later-all}
 

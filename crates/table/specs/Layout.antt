@@ -1,5 +1,4 @@
 -- The words of one set: one field to a word, in the order of docs/LAYOUT.md.
-use mathlib.Core.Bool.{Bool, true, false}
 use mathlib.Core.List.{List, [], _∷_}
 use Prim.Native.Nat.{ℕ, _%_, _^_}
 use lib.Dec.{eqb}

@@ -1,6 +1,6 @@
 // One set as a row of words, and back.
 ghost use mathlib.Core.Path.{_≡_};
-ghost use lib.ListN.{length, drop};
+ghost use lib.ListN.{length};
 ghost use Rattle.record.specs.Window.{windowNo};
 ghost use Rattle.table.specs.Layout.{fieldsOf, wordsOf, windowIn, attributesAt, stateAt, notesAt, recordOf};
 ghost use Rattle.table.specs.Table.{idOf, sameWords, legalRow, legalAfter};

@@ -1,6 +1,5 @@
-use mathlib.Core.Path.{sym, ap, _∙_}
+use mathlib.Core.Path.{sym, _∙_}
 use borrow.Author.Needs.{needs}
-use Rattle.table.specs.Table.{entryOf, enterIn}
 use Rattle.table.proofs.Known.{legal-known, enter-bad, enter-found}
 use Rattle.table.proofs.enter.Statement.{statement}
 use Rattle.table.proofs.enter.Tie as tie

@@ -1,5 +1,4 @@
 use borrow.Author.Needs.{needs}
-use Rattle.card.proofs.Passing.{page-long}
 use Rattle.card.proofs.Carried.{handed}
 use Rattle.card.proofs.answering.hand_by.Statement.{statement}
 use Rattle.card.proofs.answering.hand_by.Tie as tie

@@ -1,4 +1,3 @@
-use mathlib.Core.Path.{refl, _∙_}
 use Rattle.card.specs.StatusTable.{lateLines}
 use borrow.Author.Needs.{needs}
 use Rattle.card.proofs.Stacked.{stacked}

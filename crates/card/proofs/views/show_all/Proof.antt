@@ -1,10 +1,9 @@
 use mathlib.Core.Path.{_≡_}
-use Prim.Native.Nat.{ℕ, _-_, _≤_}
+use Prim.Native.Nat.{_-_, _≤_}
 use native.Mathlib.Omega.{arith}
 use borrow.Author.Needs.{needs}
 use lib.ListN.{length}
 use Rattle.table.specs.Table.{count}
-use Rattle.pages.specs.Identify.{firstEntry}
 use Rattle.card.proofs.Whole.{Going, going-start, going-room, going-on, going-end}
 use Rattle.card.proofs.views.show_all.Statement.{statement}
 use Rattle.card.proofs.views.show_all.Tie as tie

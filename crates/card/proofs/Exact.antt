@@ -1,0 +1,81 @@
+-- Demand 1: the number that is answered is that of the first row that holds, and 0 where none does.
+use mathlib.Core.Path.{_≡_, refl, sym, _∙_}
+use mathlib.Core.Bool.{Bool, true, false}
+use mathlib.Core.List.{List}
+use mathlib.Core.Option.{Option, none, some}
+use mathlib.Core.Logic.{_⊎_, ⊎-elim}
+use Prim.Native.Nat.{ℕ}
+use native.Mathlib.Omega.{arith}
+use borrow.Author.Tests.{eqb-true}
+use lib.Dec.{eqb}
+use Rattle.octets.specs.Choice.{if_then_else_}
+use Rattle.record.specs.declared.Record.{Record}
+use Rattle.replies.specs.Answers.{Answer, refused}
+use Rattle.table.specs.Table.{legalTable}
+use Rattle.card.specs.declared.commands.Command.{Command}
+use Rattle.card.specs.declared.commands.Kind.{Kind}
+use Rattle.card.specs.declared.commands.Kind.the-variants.{SetConfig, SetWindow, GetConfig, GetWindow, ReadLatency, ReadAggregate, Identify}
+use Rattle.card.specs.Lists.{first}
+use Rattle.card.specs.Items.{Card, Item, reads, writes, excursion, tick, command, One, Meaning, Nobody, Everybody, The}
+use Rattle.card.specs.Commands.{kindOf, commandIn}
+use Rattle.card.specs.Commanded.{meaningBy, commandMeaning}
+use Rattle.card.specs.Meanings.{meaning}
+use Rattle.card.specs.Card.{has, unknownAt, statusOne, statusBy, statusOf, doneOne, doneBy, answerBy, answer}
+use Rattle.card.specs.Words.{cardOf}
+use Rattle.card.specs.Demands.{Exactly, ExactlyWords}
+use Rattle.card.proofs.Shapes.{bool-cases}
+use Rattle.card.proofs.Frame.{step-bad, step-legal}
+use Rattle.card.proofs.Naming.{unknown-not-zero}
+
+-- what is to be shown of each item: what it answers where nothing refuses it is a success, and an unknown set is refused
+abbrev Succeeds : Meaning → Type 0
+Succeeds (Nobody v) = (c : Card) → v .done c .status ≡ 0
+Succeeds (Everybody a) = Unit {0}
+Succeeds (The id o) = (unknownAt o ≡ 0 → ⊥) × ((r : Record) → o .done r .status ≡ 0)
+
+by-kind : (k : Kind) (c : Command) (given : List ℕ) (room : ℕ) → Succeeds (meaningBy k c given room)
+by-kind SetConfig c given room = (unknown-not-zero c, λ r. refl)
+by-kind SetWindow c given room = (unknown-not-zero c, λ r. refl)
+by-kind GetConfig c given room = (unknown-not-zero c, λ r. refl)
+by-kind GetWindow c given room = (unknown-not-zero c, λ r. refl)
+by-kind ReadLatency c given room = (unknown-not-zero c, λ r. refl)
+by-kind ReadAggregate c given room = λ card. refl
+by-kind Identify c given room = λ card. refl
+
+command-succeeds : (bytes given : List ℕ) (room : ℕ) → Succeeds (commandMeaning bytes given room)
+unfolding commandMeaning
+command-succeeds bytes given room = by-kind (kindOf (commandIn bytes)) (commandIn bytes) given room
+
+succeeds : (i : Item) → Succeeds (meaning i)
+unfolding meaning
+succeeds (reads id k) = ((λ z. omega arith), λ r. refl)
+succeeds (writes id k) = ((λ z. omega arith), λ r. refl)
+succeeds (excursion id) = ((λ z. omega arith), λ r. refl)
+succeeds (tick t) = tt
+succeeds (command bytes given room) = command-succeeds bytes given room
+
+-- a success of status 0, or the refusal
+by-test : (b : Bool) (s : ℕ) (a : Answer) → eqb s 0 ≡ b → (s ≡ 0 → a .status ≡ 0) → (if b then a else refused s) .status ≡ s
+by-test true s a e h = let z = eqb-true s 0 e in h z ∙ sym z
+by-test false s a e h = refl
+
+one-done : (o : One) (x : Option Record) → (unknownAt o ≡ 0 → ⊥) → ((r : Record) → o .done r .status ≡ 0) → statusOne o x ≡ 0 → doneOne o x .status ≡ 0
+one-done o none n g z = absurd (n z)
+one-done o (some r) n g z = g r
+
+by-shape : (m : Meaning) (c : Card) → Succeeds m → answerBy m c .status ≡ statusBy m c
+by-shape (Nobody v) c g = by-test _ (statusBy (Nobody v) c) (v .done c) refl (λ z. g c)
+by-shape (Everybody a) c g = by-test _ (statusBy (Everybody a) c) (doneBy (Everybody a) c) refl (λ z. refl)
+by-shape (The id o) c g =
+    by-test _ (statusBy (The id o) c) (doneBy (The id o) c) refl (λ z. one-done o (first (has id) (c .sets)) (g .0) (g .1) z)
+
+pub exactly : Exactly
+unfolding answer statusOf
+exactly c i = by-shape (meaning i) c (succeeds i)
+
+pub exactly-words : ExactlyWords
+exactly-words ws i =
+    ⊎-elim
+    (λ e. rw (step-legal ws i e, e) (exactly (cardOf ws) i))
+    (λ e. rw (step-bad ws i e, e))
+    (bool-cases (legalTable ws))
