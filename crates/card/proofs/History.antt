@@ -90,7 +90,7 @@ by-rules c is k r e = rw (own-is c r is, run-sets is c, nth-map, e) (ap some (pa
 only : (r : Record) → first (has (idOf r)) (r ∷ []) ≡ some r
 only r = rw (eq-eqb (idOf r) (idOf r) refl)
 
-has-same : (n id : ℕ) (i : Item) (r : Record) → has id (touched n i r) ≡ has id r
+pub has-same : (n id : ℕ) (i : Item) (r : Record) → has id (touched n i r) ≡ has id r
 has-same n id i r = rw (keeps n i r)
 
 module _ (n : ℕ) (pos : 1 ≤ n) where

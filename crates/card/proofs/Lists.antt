@@ -56,6 +56,15 @@ keep-map g f p q e h [] = refl
 keep-map g f p q e h (x ∷ xs) =
     rw (h x, if-ap (map g) (q x) (f x ∷ keep p (map f xs)) (keep p (map f xs)), if-ap (map g) (q x) (x ∷ keep q xs) (keep q xs), e x, keep-map g f p q e h xs)
 
+-- what is found passes the test
+passes-by : {A : Type 0} (p : A → Bool) (y x : A) (b : Bool) (o : Option A) → p y ≡ b → (if b then some y else o) ≡ some x → (o ≡ some x → p x ≡ true) → p x ≡ true
+passes-by p y x true o e h k = let q : y ≡ x = cc in cc
+passes-by p y x false o e h k = k h
+
+pub first-passes : {A : Type 0} (p : A → Bool) (xs : List A) (x : A) → first p xs ≡ some x → p x ≡ true
+first-passes p [] x e = cc
+first-passes p (y ∷ xs) x e = passes-by p y x (p y) (first p xs) refl e (first-passes p xs x)
+
 module _ {A : Type 0} (f : A → A) (p : A → Bool) (same : (x : A) → p (f x) ≡ p x) where
   pub first-map : (xs : List A) → first p (map f xs) ≡ Option·map f (first p xs)
   first-map [] = refl

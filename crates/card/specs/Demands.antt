@@ -1,7 +1,8 @@
--- What is promised of the step over any list of items: demand 3, and demand 1 as far as it is one law for all items.
--- Each is proved under its name, in lower case and with dashes, in proofs/Exact.antt,
+-- What is promised of the step over any list of items: demand 3, of demand 2 what features store, and demand 1 as far as it is
+-- one law for all items.
+-- Each is proved under its name, in lower case and with dashes, in proofs/Exact.antt, proofs/Stored.antt,
 -- proofs/History.antt and proofs/OnWords.antt.
--- But for page 0Bh nothing here looks at a single item: an item names one set (`The`), goes to every set (`Everybody`) or to none (`Nobody`).
+-- But for page 0Bh and the features nothing here looks at a single item: an item names one set (`The`), goes to every set (`Everybody`) or to none (`Nobody`).
 use mathlib.Core.Path.{_≡_}
 use mathlib.Core.Bool.{Bool, true, false, not, _&&_, _||_}
 use mathlib.Core.List.{List, [], _∷_, _++_, map}
@@ -13,15 +14,17 @@ use Rattle.octets.specs.Octets.{padded}
 use Rattle.record.specs.declared.Attributes.{Attributes}
 use Rattle.record.specs.declared.State.{State}
 use Rattle.record.specs.declared.Record.{Record}
-use Rattle.record.specs.Events.{anyEnabled}
+use Rattle.record.specs.Events.{bit, anyEnabled}
 use Rattle.replies.specs.Numbers.{badTable}
 use Rattle.replies.specs.Answers.{Answer, granted, refused}
 use Rattle.table.specs.Table.{idOf, legalSets, legalTable, written, listedMarks}
+use Rattle.pages.specs.Features.{configIn, configPage}
 use Rattle.pages.specs.Aggregate.{picked, aggregatePage}
 use Rattle.card.specs.Lists.{nth, keep, beside, join}
-use Rattle.card.specs.Items.{Card, Item, command, All, View, Meaning, Nobody, Everybody, The}
-use Rattle.card.specs.declared.commands.Kind.the-variants.{ReadAggregate}
-use Rattle.card.specs.Commands.{commandIn, kindOf, offset, dwords}
+use Rattle.card.specs.Items.{Card, Item, reads, writes, excursion, tick, command, All, View, Meaning, Nobody, Everybody, The}
+use Rattle.card.specs.declared.commands.Kind.{Kind}
+use Rattle.card.specs.declared.commands.Kind.the-variants.{SetConfig, SetWindow, GetConfig, GetWindow, ReadLatency, ReadAggregate, Identify}
+use Rattle.card.specs.Commands.{commandIn, kindOf, featureSet, enable, windowValue, offset, dwords}
 use Rattle.card.specs.Meanings.{meaning}
 use Rattle.card.specs.Card.{effectOn, ruled, statusOf, names, answer, step, run, trace}
 use Rattle.card.specs.Words.{cardOf, stepWords}
@@ -188,6 +191,60 @@ abbrev pub SwapWithin : Type 0
 SwapWithin =
     (c : Card) (before : List Item) (i j : Item) (later : List Item) (a b : ℕ) → names a i ≡ true → names b j ≡ true → (a ≡ b → ⊥)
     → SwappedWithin c before i j later
+
+-- ==== demand 2: "What Set Features stores, Get Features hands back."
+
+-- no item of a list passes a test
+abbrev pub noneOf : (Item → Bool) → List Item → Bool
+noneOf p [] = true
+noneOf p (i ∷ is) = not (p i) && noneOf p is
+
+-- ---- 13h
+
+abbrev pub stores13 : Kind → Bool
+stores13 SetConfig = true
+stores13 SetWindow = false
+stores13 GetConfig = false
+stores13 GetWindow = false
+stores13 ReadLatency = false
+stores13 ReadAggregate = false
+stores13 Identify = false
+
+-- a Set Features 13h that names a set, carried out or refused
+abbrev pub configures : ℕ → Item → Bool
+configures id (reads named k) = false
+configures id (writes named k) = false
+configures id (excursion named) = false
+configures id (tick t) = false
+configures id (command bytes given room) = stores13 (kindOf (commandIn bytes)) && eqb (featureSet (commandIn bytes)) id
+
+-- "Get returns enable with the 512 bytes": those of the last Set Features 13h of the set, whatever other items came between
+abbrev pub ConfigStored : Type 0
+ConfigStored =
+    (c : Card) (bytes given : List ℕ) (room : ℕ) (items : List Item) (bytes′ given′ : List ℕ) (room′ : ℕ)
+    → kindOf (commandIn bytes) ≡ SetConfig → statusOf c (command bytes given room) ≡ 0
+    → noneOf (configures (featureSet (commandIn bytes))) items ≡ true
+    → kindOf (commandIn bytes′) ≡ GetConfig → featureSet (commandIn bytes′) ≡ featureSet (commandIn bytes)
+    → statusOf (run c (command bytes given room ∷ items)) (command bytes′ given′ room′) ≡ 0
+    → answer (run c (command bytes given room ∷ items)) (command bytes′ given′ room′)
+    ≡ granted (bit (enable (commandIn bytes))) (configPage (configIn given))
+
+-- ---- 14h
+
+-- an item that names a set, or goes to every set
+abbrev pub reaches : ℕ → Item → Bool
+reaches id i = names id i || toAll i
+
+-- "or the window, in dword 0": that of the last Set Features 14h, as long as no event, no tick and no command reaches the set
+abbrev pub WindowStored : Type 0
+WindowStored =
+    (c : Card) (bytes given : List ℕ) (room : ℕ) (items : List Item) (bytes′ given′ : List ℕ) (room′ : ℕ)
+    → kindOf (commandIn bytes) ≡ SetWindow → statusOf c (command bytes given room) ≡ 0
+    → noneOf (reaches (featureSet (commandIn bytes))) items ≡ true
+    → kindOf (commandIn bytes′) ≡ GetWindow → featureSet (commandIn bytes′) ≡ featureSet (commandIn bytes)
+    → statusOf (run c (command bytes given room ∷ items)) (command bytes′ given′ room′) ≡ 0
+    → answer (run c (command bytes given room ∷ items)) (command bytes′ given′ room′)
+    ≡ granted (windowValue (commandIn bytes)) []
 
 -- ==== from the step to the words: all of the above holds of a lent table that is handed from item to item
 

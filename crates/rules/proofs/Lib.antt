@@ -1,4 +1,3 @@
 pub mod Over
 pub mod Keeps
 pub mod Warnings
-mod Edges
