@@ -24,7 +24,7 @@ use Rattle.card.specs.Card.{statusOf, effectOn, concerns, touched, answe
 
 -- ---- the set, and the cards to start from
 
-abbrev seven : Attributes
+abbrev pub seven : Attributes
 seven =
     record {
       id = record { 0 = 7 };
@@ -40,21 +40,21 @@ seven =
       «minimum_low» = 5;
     }
 
-abbrev configOf : Events → ℕ → Config
+abbrev pub configOf : Events → ℕ → Config
 configOf e limit = record { enabled = e; thresholds = record { reads = limit; writes = 0; time = 0 } }
 
 -- ENEV 4001h and reads threshold 10
-abbrev warned : Config
+abbrev pub warned : Config
 warned = configOf (eventsOf true false false true false) 10
 
 -- in a window, with nothing spent in D and n ms of N time
-abbrev cardIn : Window → Config → ℕ → Card
+abbrev pub cardIn : Window → Config → ℕ → Card
 cardIn w c n =
     record {
       sets = record { attributes = seven; state = stateOf w c 0 0 0 n; notes = record { events = noEvents; listed = false } } ∷ [];
     }
 
-abbrev inD : Card
+abbrev pub inD : Card
 inD = cardIn D warned 0
 
 -- ---- the commands

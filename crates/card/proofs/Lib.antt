@@ -1,7 +1,7 @@
 pub mod Lists
 pub mod Shapes
 pub mod Slots
-mod Edges
+pub mod Edges
 pub mod Frame
 pub mod Events
 pub mod Kept
@@ -19,3 +19,4 @@ pub mod Viewing
 pub mod Plain
 pub mod Firm
 pub mod Exact
+pub mod Idle
