@@ -6,11 +6,14 @@ use mathlib.Core.Option.{Option, none, some}
 use mathlib.Core.Logic.{_⊎_, ⊎-elim}
 use Prim.Native.Nat.{ℕ}
 use native.Mathlib.Omega.{arith}
-use borrow.Author.Tests.{eqb-true}
+use borrow.Author.Tests.{eqb-true, ne-eqb}
 use lib.Dec.{eqb}
+use lib.ListN.{length}
 use Rattle.octets.specs.Choice.{if_then_else_}
 use Rattle.record.specs.declared.Record.{Record}
-use Rattle.replies.specs.Answers.{Answer, refused}
+use Rattle.replies.specs.declared.Reply.{Reply}
+use Rattle.replies.specs.Answers.{Answer, refused, refusing, Replied}
+use Rattle.replies.proofs.Answering.{one-outcome}
 use Rattle.table.specs.Table.{legalTable}
 use Rattle.card.specs.declared.commands.Command.{Command}
 use Rattle.card.specs.declared.commands.Kind.{Kind}
@@ -22,7 +25,11 @@ use Rattle.card.specs.Commanded.{meaningBy, commandMeaning}
 use Rattle.card.specs.Meanings.{meaning}
 use Rattle.card.specs.Card.{has, unknownAt, statusOne, statusBy, statusOf, doneOne, doneBy, answerBy, answer}
 use Rattle.card.specs.Words.{cardOf}
-use Rattle.card.specs.Demands.{Exactly, ExactlyWords}
+use Rattle.card.specs.SetUp.{setUpStatus, setUp}
+use Rattle.card.specs.Demands.{statusWords, Exactly, ExactlyWords, RefusedBuffer, SetUpExactly, SetUpRefused, SetUpLegal}
+use Rattle.card.proofs.OnWords.{refused-words}
+use Rattle.card.proofs.Carried.{refused-reply}
+use Rattle.card.proofs.NewSets.{done, notDone, legal-set-up}
 use Rattle.card.proofs.Shapes.{bool-cases}
 use Rattle.card.proofs.Frame.{step-bad, step-legal}
 use Rattle.card.proofs.Naming.{unknown-not-zero}
@@ -79,3 +86,30 @@ exactly-words ws i =
     (λ e. rw (step-legal ws i e, e) (exactly (cardOf ws) i))
     (λ e. rw (step-bad ws i e, e))
     (bool-cases (legalTable ws))
+
+-- ---- the answer buffer of a refused command
+
+pub refused-buffer : RefusedBuffer
+refused-buffer ws i before r words buffer n h =
+    let d = refused-words ws i n in
+    let s = statusWords ws i in
+    let p : Replied (refused s) before r buffer = rw d at (h .reply) in
+    let o = one-outcome (refused s) before buffer before r (refusing s) p (refused-reply s before) in
+    (o .0, rw d at (h .table), o .1)
+
+-- ---- set-up
+
+set-up-by : (b : Bool) (bytes ws : List ℕ) (s : ℕ) → eqb s 0 ≡ b → (if b then done bytes ws else notDone ws s) .answer .status ≡ s
+set-up-by true bytes ws s e = sym (eqb-true s 0 e)
+set-up-by false bytes ws s e = refl
+
+pub set-up-exactly : SetUpExactly
+unfolding setUp
+set-up-exactly bytes ws = set-up-by _ bytes ws (setUpStatus bytes (length ws)) refl
+
+pub set-up-refused : SetUpRefused
+unfolding setUp
+set-up-refused bytes ws n = rw (ne-eqb (setUpStatus bytes (length ws)) 0 n)
+
+pub set-up-legal : SetUpLegal
+set-up-legal bytes ws h = legal-set-up bytes ws h

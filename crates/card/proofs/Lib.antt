@@ -20,3 +20,4 @@ pub mod Plain
 pub mod Firm
 pub mod Exact
 pub mod Idle
+pub mod Named

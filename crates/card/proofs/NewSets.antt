@@ -135,10 +135,10 @@ module _ (bytes ws : List ℕ) (w : Well bytes (length ws)) where
   unfolding base
   new-table-back = written-back base base-sized (newSets bytes) new-many (w .legal)
 
-abbrev done : List ℕ → List ℕ → Result
+abbrev pub done : List ℕ → List ℕ → Result
 done bytes ws = record { table = newTable bytes ws; answer = granted 0 [] }
 
-abbrev notDone : List ℕ → ℕ → Result
+abbrev pub notDone : List ℕ → ℕ → Result
 notDone ws s = record { table = ws; answer = refused s }
 
 by-status :
@@ -148,6 +148,6 @@ by-status bytes ws s true e q h = let w = well bytes (length ws) s e (eqb-true s
 by-status bytes ws s false e q h = absurd (eqb-false s 0 q h)
 
 -- set-up that succeeds leaves a legal table that holds the new sets
-pub set-up-legal : (bytes ws : List ℕ) → setUp bytes ws .answer .status ≡ 0 → (legalTable (setUp bytes ws .table) ≡ true) × (recordsOf (setUp bytes ws .table) ≡ newSets bytes)
+pub legal-set-up : (bytes ws : List ℕ) → setUp bytes ws .answer .status ≡ 0 → (legalTable (setUp bytes ws .table) ≡ true) × (recordsOf (setUp bytes ws .table) ≡ newSets bytes)
 unfolding setUp
-set-up-legal bytes ws h = by-status bytes ws _ (eqb (setUpStatus bytes (length ws)) 0) refl refl h
+legal-set-up bytes ws h = by-status bytes ws _ (eqb (setUpStatus bytes (length ws)) 0) refl refl h

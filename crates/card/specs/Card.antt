@@ -1,4 +1,5 @@
--- The step: what any item does to the card, and what is answered. Every public function's promise cites it.
+-- The step: what any item does to the card, and what is answered. Every public function's promise cites it, on the lent
+-- words (`stepWords`); only set-up's cites `setUp`.
 use mathlib.Core.Bool.{Bool, true, false}
 use mathlib.Core.List.{List, [], _∷_, _++_, map}
 use mathlib.Core.Option.{Option, none, some}

@@ -123,7 +123,7 @@ aggregatePageNo = 0x0B
 abbrev pub setListCns : ℕ
 setListCns = 0x04
 
--- ---- which command it is; one that no row of the status table lets pass is of some kind too
+-- ---- which command it is; one that the status table refuses is given some kind too
 
 abbrev pub kindBy : Bool → Bool → Bool → Bool → Bool → Kind
 kindBy set get log config latency =

@@ -1,14 +1,15 @@
--- What is promised of the step over any list of items: demand 3, of demand 2 what features store, and demand 1 as far as it is
--- one law for all items.
--- Each is proved under its name, in lower case and with dashes, in proofs/Exact.antt, proofs/Stored.antt,
--- proofs/History.antt and proofs/OnWords.antt.
--- But for page 0Bh and the features nothing here looks at a single item: an item names one set (`The`), goes to every set (`Everybody`) or to none (`Nobody`).
+-- What is promised of the step: demand 1 as laws for all items; demand 3 over any list of items; and of demand 2, that features
+-- hand back what they store.
+-- Each is proved under its name, in lower case and with dashes, in proofs/Exact.antt, proofs/Stored.antt, proofs/Named.antt,
+-- proofs/History.antt, proofs/Aggregate.antt and proofs/OnWords.antt.
+-- But for page 0Bh, the features and which items name a set nothing here looks at a single item: an item names one set (`The`), goes to every set (`Everybody`) or to none (`Nobody`).
 use mathlib.Core.Path.{_≡_}
 use mathlib.Core.Bool.{Bool, true, false, not, _&&_, _||_}
 use mathlib.Core.List.{List, [], _∷_, _++_, map}
 use mathlib.Core.Option.{some}
 use Prim.Native.Nat.{ℕ, _*_, _<_}
 use lib.Dec.{eqb}
+use lib.ListN.{length}
 use Rattle.octets.specs.Choice.{if_then_else_}
 use Rattle.octets.specs.Octets.{padded}
 use Rattle.record.specs.declared.Attributes.{Attributes}
@@ -16,8 +17,9 @@ use Rattle.record.specs.declared.State.{State}
 use Rattle.record.specs.declared.Record.{Record}
 use Rattle.record.specs.Events.{bit, anyEnabled}
 use Rattle.replies.specs.Numbers.{badTable}
-use Rattle.replies.specs.Answers.{Answer, granted, refused}
-use Rattle.table.specs.Table.{idOf, legalSets, legalTable, written, listedMarks}
+use Rattle.replies.specs.declared.Reply.{Reply}
+use Rattle.replies.specs.Answers.{Answer, granted, refused, refusing}
+use Rattle.table.specs.Table.{idOf, legalSets, legalTable, written, listedMarks, recordsOf}
 use Rattle.pages.specs.Features.{configIn, configPage}
 use Rattle.pages.specs.Aggregate.{picked, aggregatePage}
 use Rattle.card.specs.Lists.{nth, keep, beside, join}
@@ -25,9 +27,11 @@ use Rattle.card.specs.Items.{Card, Item, reads, writes, excursion, tick,
 use Rattle.card.specs.declared.commands.Kind.{Kind}
 use Rattle.card.specs.declared.commands.Kind.the-variants.{SetConfig, SetWindow, GetConfig, GetWindow, ReadLatency, ReadAggregate, Identify}
 use Rattle.card.specs.Commands.{commandIn, kindOf, featureSet, enable, windowValue, offset, dwords}
+use Rattle.card.specs.Commanded.{isNamed, namedBy}
 use Rattle.card.specs.Meanings.{meaning}
 use Rattle.card.specs.Card.{effectOn, ruled, statusOf, names, answer, step, run, trace}
-use Rattle.card.specs.Words.{cardOf, stepWords}
+use Rattle.card.specs.Words.{cardOf, stepWords, Answered}
+use Rattle.card.specs.SetUp.{newSets, setUpStatus, setUp}
 
 -- ==== demand 1: "with success or with the one refusal that document 01 names for that input"
 
@@ -53,6 +57,26 @@ Exactly = (c : Card) (i : Item) → answer c i .status ≡ statusOf c i
 abbrev pub ExactlyWords : Type 0
 ExactlyWords = (ws : List ℕ) (i : Item) → stepWords ws i .answer .status ≡ statusWords ws i
 
+-- "or of the answer buffer": what a command that is refused leaves of it
+abbrev pub RefusedBuffer : Type 0
+RefusedBuffer =
+    (ws : List ℕ) (i : Item) (before : List ℕ) (r : Reply) (words buffer : List ℕ) → (statusWords ws i ≡ 0 → ⊥)
+    → Answered ws i before r words buffer → (r ≡ refusing (statusWords ws i)) × (words ≡ ws) × (buffer ≡ before)
+
+-- the same of set-up, which is no item; and what it leaves where it succeeds
+abbrev pub SetUpExactly : Type 0
+SetUpExactly = (bytes ws : List ℕ) → setUp bytes ws .answer .status ≡ setUpStatus bytes (length ws)
+
+abbrev pub SetUpRefused : Type 0
+SetUpRefused =
+    (bytes ws : List ℕ) → (setUpStatus bytes (length ws) ≡ 0 → ⊥)
+    → setUp bytes ws ≡ record { table = ws; answer = refused (setUpStatus bytes (length ws)) }
+
+abbrev pub SetUpLegal : Type 0
+SetUpLegal =
+    (bytes ws : List ℕ) → setUp bytes ws .answer .status ≡ 0
+    → (legalTable (setUp bytes ws .table) ≡ true) × (recordsOf (setUp bytes ws .table) ≡ newSets bytes)
+
 -- ==== demand 3: "Start from any legal table and take any sequence of items, refused ones included, with no new set-up in it."
 -- Where a legal table is needed, `legalSets` says so. A set is the record in a slot, which keeps its place.
 
@@ -72,6 +96,26 @@ toAllBy (The named o) = false
 
 unfoldable pub toAll : Item → Bool
 toAll i = toAllBy (meaning i)
+
+-- which items these are: "The items that name a set are events other than ticks, feature commands and reads of 0Ah; Identify and
+-- 0Bh name none."
+abbrev pub namesIn : ℕ → Item → Bool
+namesIn id (reads named k) = eqb named id
+namesIn id (writes named k) = eqb named id
+namesIn id (excursion named) = eqb named id
+namesIn id (tick t) = false
+namesIn id (command bytes given room) =
+    isNamed (kindOf (commandIn bytes)) && eqb (namedBy (kindOf (commandIn bytes)) (commandIn bytes)) id
+
+abbrev pub isTick : Item → Bool
+isTick (reads named k) = false
+isTick (writes named k) = false
+isTick (excursion named) = false
+isTick (tick t) = true
+isTick (command bytes given room) = false
+
+abbrev pub NamedItems : Type 0
+NamedItems = (id : ℕ) (i : Item) → (names id i ≡ namesIn id i) × (toAll i ≡ isTick i)
 
 abbrev pub owns : Card → ℕ → Item → Bool
 owns c id i = names id i || toAll i && eqb (statusOf c i) 0
@@ -102,6 +146,7 @@ OwnAnswers =
     → beside (names (idOf r)) items (trace c items) ≡ beside (names (idOf r)) (own c r items) (trace (alone r) (own c r items))
 
 -- The data of an item that goes to every set, if it is carried out: what each set alone would hand out, joined.
+-- (Today no such item hands out data.)
 abbrev pub Joined : Type 0
 Joined =
     (c : Card) (items : List Item) (i : Item) (a : All) → meaning i ≡ Everybody a → answer (run c items) i .status ≡ 0
@@ -218,7 +263,8 @@ configures id (excursion named) = false
 configures id (tick t) = false
 configures id (command bytes given room) = stores13 (kindOf (commandIn bytes)) && eqb (featureSet (commandIn bytes)) id
 
--- "Get returns enable with the 512 bytes": those of the last Set Features 13h of the set, whatever other items came between
+-- "Get returns enable with the 512 bytes": those of the last Set Features 13h of the set, whatever other items came between.
+-- That the page says what was stored is `config-back` of pages/proofs/Back.antt.
 abbrev pub ConfigStored : Type 0
 ConfigStored =
     (c : Card) (bytes given : List ℕ) (room : ℕ) (items : List Item) (bytes′ given′ : List ℕ) (room′ : ℕ)

@@ -9,5 +9,5 @@ pub mod Words
 pub mod OnSet
 pub mod Views
 pub mod Media
-pub mod Demands
 pub mod SetUp
+pub mod Demands

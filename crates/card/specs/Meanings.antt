@@ -1,4 +1,4 @@
--- What each item is.
+-- What each item means: whom it names, what refuses it, what it does and answers.
 use Prim.Native.Nat.{ℕ}
 use mathlib.Core.List.{[], _∷_}
 use lib.Dec.{ltb}
@@ -17,7 +17,8 @@ use Rattle.card.specs.Items.{Item, reads, writes, excursion, tick, comma
 abbrev pub event : (Attributes → State → Effect) → One
 event rule = record { early = []; unknown = unknownSet; late = λ a s. []; rule = rule; done = λ r. granted 0 [] }
 
--- 01: "tick too long 07C5h". "A tick .. goes to every set." It hands out no data.
+-- 01: "tick too long 07C5h". "A tick .. goes to every set." It hands out no data, so that
+-- the row for want of room never holds.
 abbrev pub ticked : ℕ → All
 ticked t =
     record { early = line (ltb dayMs t) tickTooLong ∷ []; each = 0; room = 0; rule = rules.tick t; part = λ r. [] }

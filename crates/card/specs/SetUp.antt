@@ -1,4 +1,4 @@
--- 01: "Set-up takes .. the 84-byte bodies": one definition, apart from the step.
+-- 01, set-up: "the core first takes the 84-byte bodies below". One definition, apart from the step.
 use mathlib.Core.Path.{_≡_}
 use mathlib.Core.Bool.{Bool, false, not, _&&_}
 use mathlib.Core.List.{List, [], _∷_, map}
@@ -32,7 +32,7 @@ newRecord a =
       notes = record { events = noEvents; listed = false };
     }
 
--- the attributes of n bodies from a place on, and the sets that they make
+-- the attributes of n bodies from a place on
 abbrev pub attributesFrom : List ℕ → ℕ → ℕ → List Attributes
 attributesFrom bytes at zero = []
 attributesFrom bytes at (suc n) = attributesIn bytes at ∷ attributesFrom bytes (at + bodySize) n
@@ -44,6 +44,7 @@ bodies bytes = length bytes / bodySize
 abbrev pub followsOf : ℕ → Attributes → Bool
 followsOf before a = legalAttributes a && ltb before (a .id .0)
 
+-- the sets that the bodies make
 unfoldable pub newSets : List ℕ → List Record
 newSets bytes = map newRecord (attributesFrom bytes 0 (bodies bytes))
 

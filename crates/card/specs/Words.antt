@@ -19,7 +19,7 @@ pub record Result : Type 0 where
   pub table : List ℕ
   pub answer : Answer
 
--- 01: "table not legal, or slice too short: 07C3h", nothing changed. Else the card's step, written back.
+-- 01: "table not legal, or slice too short": 07C3h, and nothing changed. Else the card's step, written back.
 unfoldable pub stepWords : List ℕ → Item → Result
 stepWords ws i =
     if legalTable ws
@@ -27,7 +27,7 @@ stepWords ws i =
     else record { table = ws; answer = refused badTable }
 
 -- What a media event or a tick promises: the words that it leaves, and the number that it answers.
--- (Its dword 0 is zero and it has no data: `plain` of proofs/Plain.antt.)
+-- (Its dword 0 is zero and it has no data: `plain` and `plain-tick` of proofs/Plain.antt.)
 pub record Stepped (ws : List ℕ) (i : Item) (after : List ℕ) (number : ℕ) : Type 0 where
   pub table : after ≡ stepWords ws i .table
   pub status : number ≡ stepWords ws i .answer .status

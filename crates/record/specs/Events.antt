@@ -46,10 +46,11 @@ bit b = if b then 1 else 0
 abbrev pub bitsOf : Events → ℕ
 bitsOf e = bit (e .reads) + 2 * bit (e .writes) + 4 * bit (e .time) + 0x4000 * bit (e .exceeded) + 0x8000 * bit (e .excursion)
 
--- the events of a 16-bit number: "masked with C007h", since the other bits are not looked at
+-- whether bit k of a number is set
 abbrev pub hasBit : ℕ → ℕ → Bool
 hasBit k x = eqb (x / 2 ^ k % 2) 1
 
+-- the events of a 16-bit number: "masked with C007h", since the other bits are not looked at
 abbrev pub eventsIn : ℕ → Events
 eventsIn x = eventsOf (hasBit 0 x) (hasBit 1 x) (hasBit 2 x) (hasBit 14 x) (hasBit 15 x)
 

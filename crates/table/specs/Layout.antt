@@ -50,7 +50,7 @@ fieldsOf r =
 unfoldable pub wordsOf : Record → List ℕ
 wordsOf r = fieldsOf r
 
--- the window of a number; a number that stands for none is not the number of the window given here
+-- the window of a number; any number above 1 gives N, so that for one above 2 the words differ and `legalRow` refuses it
 abbrev pub windowIn : ℕ → Window
 windowIn n = if eqb n 0 then Off else if eqb n 1 then D else N
 
