@@ -10,4 +10,5 @@ pub mod OnSet
 pub mod Views
 pub mod Media
 pub mod SetUp
+pub mod Page
 pub mod Demands
