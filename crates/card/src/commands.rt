@@ -28,7 +28,7 @@ pub enum Kind {
 const SIZE: usize = 64;
 
 // A command of another length is read as if cut or filled up to 64 bytes, so that no test that is made of it can fail.
-pub fn command_in(bytes: &[u8]) -> Command
+pub(crate) fn command_in(bytes: &[u8]) -> Command
     ensures { λ r. ⌜ r ≡ commandIn (now (bytes .entry)) ⌝ }
 {
     let whole = bytes.len() == SIZE;
@@ -55,61 +55,61 @@ fn opcode_of(c: Command) -> u32
     c.cdw0 / 1 % 256
 }
 
-pub fn is_log(c: Command) -> bool
+pub(crate) fn is_log(c: Command) -> bool
     ensures { λ r. ⌜ r ≡ isLog c ⌝ }
 {
     opcode_of(c) == 0x02
 }
 
-pub fn is_identify(c: Command) -> bool
+pub(crate) fn is_identify(c: Command) -> bool
     ensures { λ r. ⌜ r ≡ isIdentify c ⌝ }
 {
     opcode_of(c) == 0x06
 }
 
-pub fn is_set(c: Command) -> bool
+pub(crate) fn is_set(c: Command) -> bool
     ensures { λ r. ⌜ r ≡ isSet c ⌝ }
 {
     opcode_of(c) == 0x09
 }
 
-pub fn is_get(c: Command) -> bool
+pub(crate) fn is_get(c: Command) -> bool
     ensures { λ r. ⌜ r ≡ isGet c ⌝ }
 {
     opcode_of(c) == 0x0A
 }
 
-pub fn chosen_by(c: Command) -> u32
+pub(crate) fn chosen_by(c: Command) -> u32
     ensures { λ r. ⌜ r ≡ chosen c ⌝ }
 {
     c.cdw10 / 1 % 256
 }
 
-pub fn saves(c: Command) -> bool
+pub(crate) fn saves(c: Command) -> bool
     ensures { λ r. ⌜ r ≡ save c ⌝ }
 {
     c.cdw10 / 0x8000_0000 % 2 == 1
 }
 
-pub fn selected_by(c: Command) -> u32
+pub(crate) fn selected_by(c: Command) -> u32
     ensures { λ r. ⌜ r ≡ select c ⌝ }
 {
     c.cdw10 / 0x100 % 8
 }
 
-pub fn feature_set(c: Command) -> u16
+pub(crate) fn feature_set(c: Command) -> u16
     ensures { λ r. ⌜ r ≡ featureSet c ⌝ }
 {
     (c.cdw11 / 1 % 65536) as u16
 }
 
-pub fn enables(c: Command) -> bool
+pub(crate) fn enables(c: Command) -> bool
     ensures { λ r. ⌜ r ≡ enable c ⌝ }
 {
     c.cdw12 / 1 % 2 == 1
 }
 
-pub fn window_value(c: Command) -> u32
+pub(crate) fn window_value(c: Command) -> u32
     ensures { λ r. ⌜ r ≡ windowValue c ⌝ }
 {
     c.cdw12 / 1 % 8
@@ -121,19 +121,19 @@ fn cause_by(d: bool) -> Cause
     if d { Cause::SelectD } else { Cause::SelectN }
 }
 
-pub fn window_cause(c: Command) -> Cause
+pub(crate) fn window_cause(c: Command) -> Cause
     ensures { λ r. ⌜ r ≡ windowCause c ⌝ }
 {
     cause_by(window_value(c) == 1)
 }
 
-pub fn retains(c: Command) -> bool
+pub(crate) fn retains(c: Command) -> bool
     ensures { λ r. ⌜ r ≡ retain c ⌝ }
 {
     c.cdw10 / 0x8000 % 2 == 1
 }
 
-pub fn dwords_of(c: Command) -> u64
+pub(crate) fn dwords_of(c: Command) -> u64
     ensures { λ r. ⌜ r ≡ dwords c ⌝ }
 {
     let low = (c.cdw10 / 65536 % 65536) as u64;
@@ -141,19 +141,19 @@ pub fn dwords_of(c: Command) -> u64
     low + 65536 * high + 1
 }
 
-pub fn log_set(c: Command) -> u16
+pub(crate) fn log_set(c: Command) -> u16
     ensures { λ r. ⌜ r ≡ logSet c ⌝ }
 {
     (c.cdw11 / 65536 % 65536) as u16
 }
 
-pub fn offset_of(c: Command) -> u64
+pub(crate) fn offset_of(c: Command) -> u64
     ensures { λ r. ⌜ r ≡ offset c ⌝ }
 {
     (c.cdw12 as u64) + 4294967296 * (c.cdw13 as u64)
 }
 
-pub fn asked_by(c: Command) -> u16
+pub(crate) fn asked_by(c: Command) -> u16
     ensures { λ r. ⌜ r ≡ asked c ⌝ }
 {
     (c.cdw11 / 1 % 65536) as u16
@@ -185,7 +185,7 @@ fn kind_by(set: bool, get: bool, log: bool, config: bool, latency: bool) -> Kind
     }
 }
 
-pub fn kind_of(c: Command) -> Kind
+pub(crate) fn kind_of(c: Command) -> Kind
     ensures { λ r. ⌜ r ≡ kindOf c ⌝ }
 {
     let chosen = chosen_by(c);
@@ -198,7 +198,7 @@ pub fn kind_of(c: Command) -> Kind
     )
 }
 
-pub fn needs_in(k: Kind) -> usize
+pub(crate) fn needs_in(k: Kind) -> usize
     ensures { λ r. ⌜ r ≡ needsIn k ⌝ }
 {
     match k {
@@ -212,7 +212,7 @@ pub fn needs_in(k: Kind) -> usize
     }
 }
 
-pub fn log_size(k: Kind) -> u64
+pub(crate) fn log_size(k: Kind) -> u64
     ensures { λ r. ⌜ r ≡ logSize k ⌝ }
 {
     match k {
@@ -226,7 +226,7 @@ pub fn log_size(k: Kind) -> u64
     }
 }
 
-pub fn needs_out(k: Kind, c: Command) -> u64
+pub(crate) fn needs_out(k: Kind, c: Command) -> u64
     ensures { λ r. ⌜ r ≡ needsOut k c ⌝ }
 {
     let moved = dwords_of(c);

@@ -139,13 +139,20 @@ fn above(first: u16, next: u16) -> u16
     if first == 0 { next } else { first }
 }
 
-pub fn unknown_status(c: Command) -> u16
+pub(crate) fn unknown_status(c: Command) -> u16
     ensures { λ r. ⌜ r ≡ firstOf (earlyLines c ++ line true unknownNumber ∷ []) ⌝ }
 {
     above(early_status(c), 0x0002)
 }
 
-pub fn found_status(k: Kind, c: Command, given: usize, room: usize, a: Attributes, s: State) -> u16
+pub(crate) fn found_status(
+    k: Kind,
+    c: Command,
+    given: usize,
+    room: usize,
+    a: Attributes,
+    s: State,
+) -> u16
     ensures { λ r. ⌜ r ≡ firstOf (earlyLines c ++ lateLines k c given room a s) ⌝ }
 {
     above(early_status(c), late_status(k, c, given, room, a, s))
@@ -157,7 +164,7 @@ fn short_status(short: bool) -> u16
     if short { 0x07C2 } else { 0 }
 }
 
-pub fn view_status(k: Kind, c: Command, given: usize, room: usize) -> u16
+pub(crate) fn view_status(k: Kind, c: Command, given: usize, room: usize) -> u16
     ensures { λ r. ⌜ r ≡ firstOf (earlyLines c ++ shortLine k c given room ∷ []) ⌝ }
 {
     above(early_status(c), short_status(too_short(k, c, given, room)))

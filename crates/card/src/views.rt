@@ -17,7 +17,7 @@ use table::identifiers;
 use table::listed_word;
 use table::load;
 
-pub fn aggregate_of(table: &[u64]) -> [u8; 72]
+pub(crate) fn aggregate_of(table: &[u64]) -> [u8; 72]
     requires { ⌜ Legal (now table) ⌝ }
     ensures { λ p. ⌜ p ≡ aggregatePage (listedIds (recordsOf (now (table .entry)))) ⌝ }
 {
@@ -51,7 +51,7 @@ fn show_all(page: &mut [u8], table: &[u64], from: u16) -> usize
     to
 }
 
-pub fn set_list_of(table: &[u64], from: u16) -> [u8; 4096]
+pub(crate) fn set_list_of(table: &[u64], from: u16) -> [u8; 4096]
     requires { ⌜ Legal (now table) ⌝ }
     ensures { λ p. ⌜ p ≡ identifyPage from (attributesOf (recordsOf (now (table .entry)))) ⌝ }
 {
