@@ -9,6 +9,7 @@ use replies::Reply;
 use samples::copy;
 use samples::no_words;
 use samples::print;
+use samples::print_changes;
 use samples::print_number;
 use samples::print_word;
 use samples::tenfold;
@@ -90,25 +91,6 @@ fn print_reply(r: Reply) {
     print_dword(r.dword as u64);
     print(b" ");
     print_number(r.len as u64);
-}
-
-fn print_change(place: usize, old: u64, new: u64) {
-    if old != new {
-        print(b" ");
-        print_number(place as u64);
-        print(b":");
-        print_word(new);
-    }
-}
-
-fn print_changes(before: &[u64], after: &[u64]) {
-    let mut i = 0;
-    while i < before.len() {
-        if i < after.len() {
-            print_change(i, before[i], after[i]);
-        }
-        i += 1;
-    }
 }
 
 fn print_line(number: u64, r: Reply, answer: &[u8], before: &[u64], after: &[u64]) {

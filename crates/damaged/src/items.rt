@@ -4,27 +4,9 @@ use crate::calls::lend;
 use samples::copy;
 use samples::no_words;
 use samples::print;
+use samples::print_changes;
 use samples::print_number;
 use samples::print_word;
-
-fn print_change(place: usize, old: u64, new: u64) {
-    if old != new {
-        print(b" ");
-        print_number(place as u64);
-        print(b":");
-        print_word(new);
-    }
-}
-
-fn print_changes(before: &[u64], after: &[u64]) {
-    let mut i = 0;
-    while i < before.len() {
-        if i < after.len() {
-            print_change(i, before[i], after[i]);
-        }
-        i += 1;
-    }
-}
 
 fn try_entry(legal: &[u64], number: u64, entry: usize, item: [u64; 3]) {
     let mut words = no_words();

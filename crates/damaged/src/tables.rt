@@ -1,45 +1,10 @@
-// The tables that are damaged. There are no commands yet, so the words of each window are written straight in.
-use samples::ATTRIBUTES;
+// The tables that are damaged. The words of each window are written straight in, so that no command has a hand in them.
+use samples::SET_7;
 use samples::at;
 use samples::no_bytes;
 use samples::put_many;
-use samples::put_nth;
+use samples::put_three;
 use samples::store;
-
-// Set 7 is plain. Set 9 has its unallocated capacity above the total in the low word only. Set 12 is as large as a set may be.
-const SET_7: [u64; ATTRIBUTES] = [7, 1, 100, 4096, 1000, 0, 1000, 0, 100, 50, 1000, 20, 5];
-
-const SET_9: [u64; ATTRIBUTES] = [
-    9,
-    2,
-    200,
-    8192,
-    10,
-    5,
-    18446744073709551615,
-    4,
-    300,
-    200,
-    5000,
-    40,
-    40,
-];
-
-const SET_12: [u64; ATTRIBUTES] = [
-    12,
-    65535,
-    4294967295,
-    4294967295,
-    18446744073709551615,
-    18446744073709551615,
-    18446744073709551615,
-    18446744073709551615,
-    4294967295,
-    4294967295,
-    86400000,
-    86400000,
-    86400000,
-];
 
 // Each row is a place and the word put there.
 fn put_all(words: &mut [u64], rows: &[[u64; 2]]) {
@@ -59,9 +24,7 @@ fn set_up(words: &mut [u64], bytes: &[u8], n: usize) {
 
 fn set_up_three(words: &mut [u64]) {
     let mut bytes = no_bytes();
-    put_nth(&mut bytes, 0, SET_7);
-    put_nth(&mut bytes, 1, SET_9);
-    put_nth(&mut bytes, 2, SET_12);
+    put_three(&mut bytes);
     set_up(words, &bytes, 252);
 }
 

@@ -20,6 +20,41 @@ const PLACES: [usize; ATTRIBUTES] = [0, 2, 4, 8, 12, 20, 28, 36, 44, 52, 60, 68,
 
 const WIDTHS: [usize; ATTRIBUTES] = [2, 2, 4, 4, 8, 8, 8, 8, 8, 8, 8, 8, 8];
 
+// Set 7 is document 01's. Set 9 has its unallocated capacity above the total in the low word only. Set 12 is as large as may be.
+pub const SET_7: [u64; ATTRIBUTES] = [7, 1, 100, 4096, 1000, 0, 1000, 0, 100, 50, 1000, 20, 5];
+
+pub const SET_9: [u64; ATTRIBUTES] = [
+    9,
+    2,
+    200,
+    8192,
+    10,
+    5,
+    18446744073709551615,
+    4,
+    300,
+    200,
+    5000,
+    40,
+    40,
+];
+
+pub const SET_12: [u64; ATTRIBUTES] = [
+    12,
+    65535,
+    4294967295,
+    4294967295,
+    18446744073709551615,
+    18446744073709551615,
+    18446744073709551615,
+    18446744073709551615,
+    4294967295,
+    4294967295,
+    86400000,
+    86400000,
+    86400000,
+];
+
 pub fn no_words() -> [u64; WORDS]
     ensures { λ r. ⌜ 769 ≡ length r ⌝ }
 {
@@ -99,6 +134,13 @@ pub fn put_nth(bytes: &mut [u8], n: usize, a: [u64; ATTRIBUTES]) {
     }
 }
 
+// The bodies of the three sets above.
+pub fn put_three(bytes: &mut [u8]) {
+    put_nth(bytes, 0, SET_7);
+    put_nth(bytes, 1, SET_9);
+    put_nth(bytes, 2, SET_12);
+}
+
 // The identifiers of many sets: 10, 20, and so on, so that there is room between them.
 pub fn tenfold(n: usize) -> u64 {
     if n < BODIES { (n as u64 + 1) * 10 } else { 0 }
@@ -125,6 +167,26 @@ pub fn print_number(n: u64) {
 pub fn print_word(n: u64) {
     io::write_all(STDOUT_FILENO, b" ");
     io::print_hex(STDOUT_FILENO, n, 4);
+}
+
+fn print_change(place: usize, old: u64, new: u64) {
+    if old != new {
+        print(b" ");
+        print_number(place as u64);
+        print(b":");
+        print_word(new);
+    }
+}
+
+// Each word that changed: its place and what it holds now.
+pub fn print_changes(before: &[u64], after: &[u64]) {
+    let mut i = 0;
+    while i < before.len() {
+        if i < after.len() {
+            print_change(i, before[i], after[i]);
+        }
+        i += 1;
+    }
 }
 
 // Whether any word changed.

@@ -1,8 +1,8 @@
 use Prim.Native.Nat.{_-_, _≤_}
 use lib.ListN.{length}
 use borrow.Author.Needs.{needs}
-use Rattle.damaged.proofs.items.print_changes.Statement.{statement}
-use Rattle.damaged.proofs.items.print_changes.Tie as tie
+use Rattle.samples.proofs.print_changes.Statement.{statement}
+use Rattle.samples.proofs.print_changes.Tie as tie
 
 abbrev Inv-loop : tie.InvT-loop
 Inv-loop before after i₀ i = i ≤ length before
