@@ -17,8 +17,8 @@ use Rattle.table.specs.Table.{row, put}
 use Rattle.card.specs.declared.commands.Command.{Command}
 use Rattle.card.specs.declared.commands.Kind.{Kind}
 use Rattle.card.specs.Commands.{kindOf, needsOut}
-use Rattle.card.specs.Commanded.{isNamed, ruleBy, doneBy, dwordBy, pageBy, fromBy}
-use Rattle.card.specs.OnSet.{statusOn, answerOn, OnSet}
+use Rattle.card.specs.Commanded.{isNamed, ruleBy, doneBy}
+use Rattle.card.specs.OnSet.{dwordBy, pageBy, fromBy, statusOn, answerOn, OnSet}
 use Rattle.card.proofs.Passing.{Fine, fine, done-is}
 
 pub refused-reply : (s : ℕ) (before : List ℕ) → Replied (refused s) before (refusing s) before

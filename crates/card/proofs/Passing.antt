@@ -24,7 +24,8 @@ use Rattle.card.specs.declared.commands.Kind.{Kind}
 use Rattle.card.specs.declared.commands.Kind.the-variants.{SetConfig, SetWindow, GetConfig, GetWindow, ReadLatency, ReadAggregate, Identify}
 use Rattle.card.specs.Commands.{isLog, isSet, isGet, chosen, select, offset, configFid, latencyPageNo, kindBy, kindOf, needsIn, needsOut, logSize}
 use Rattle.card.specs.StatusTable.{partWrong, earlyLines, shortLine, lateLines}
-use Rattle.card.specs.Commanded.{isNamed, modeNo, doneBy, dwordBy, pageBy, fromBy}
+use Rattle.card.specs.Commanded.{isNamed, modeNo, doneBy}
+use Rattle.card.specs.OnSet.{dwordBy, pageBy, fromBy}
 
 -- what an or that is false tells
 left-false : (a b : Bool) → a || b ≡ false → a ≡ false

@@ -2,7 +2,7 @@
 use mathlib.Core.Bool.{Bool, true, false}
 use mathlib.Core.List.{List, [], _∷_, _++_, map}
 use Prim.Native.Nat.{ℕ, _*_}
-use lib.ListN.{length, replicate}
+use lib.ListN.{length}
 use Rattle.octets.specs.Choice.{if_then_else_}
 use Rattle.octets.specs.Octets.{padded}
 use Rattle.record.specs.declared.Attributes.{Attributes}
@@ -14,7 +14,7 @@ use Rattle.replies.specs.Answers.{Answer, granted}
 use Rattle.rules.specs.Rules as rules
 use Rattle.table.specs.Table.{idOf, listedMarks}
 use Rattle.pages.specs.Features.{configIn, configPage}
-use Rattle.pages.specs.Latency.{latencySize, latencyPage}
+use Rattle.pages.specs.Latency.{latencyPage}
 use Rattle.pages.specs.Aggregate.{picked, aggregatePage}
 use Rattle.pages.specs.Identify.{identifyPage}
 use Rattle.card.specs.declared.commands.Command.{Command}
@@ -63,34 +63,6 @@ named k c given room =
       rule = ruleBy k c given;
       done = doneBy k c;
     }
-
--- the same answer as it is handed out: dword 0, a page, and the part of it
-abbrev pub dwordBy : Kind → Record → ℕ
-dwordBy SetConfig r = 0
-dwordBy SetWindow r = 0
-dwordBy GetConfig r = modeNo (r .state)
-dwordBy GetWindow r = windowNo (r .state .window)
-dwordBy ReadLatency r = 0
-dwordBy ReadAggregate r = 0
-dwordBy Identify r = 0
-
-abbrev pub pageBy : Kind → Record → List ℕ
-pageBy SetConfig r = replicate latencySize 0
-pageBy SetWindow r = replicate latencySize 0
-pageBy GetConfig r = configPage (r .state .config)
-pageBy GetWindow r = replicate latencySize 0
-pageBy ReadLatency r = latencyPage r
-pageBy ReadAggregate r = replicate latencySize 0
-pageBy Identify r = replicate latencySize 0
-
-abbrev pub fromBy : Kind → Command → ℕ
-fromBy SetConfig c = 0
-fromBy SetWindow c = 0
-fromBy GetConfig c = 0
-fromBy GetWindow c = 0
-fromBy ReadLatency c = offset c
-fromBy ReadAggregate c = 0
-fromBy Identify c = 0
 
 -- whether it names a set, and which
 abbrev pub isNamed : Kind → Bool

@@ -3,19 +3,53 @@ use mathlib.Core.Path.{_≡_}
 use mathlib.Core.List.{List, _++_}
 use Prim.Native.Nat.{ℕ}
 use lib.Dec.{eqb}
-use lib.ListN.{length}
+use lib.ListN.{length, replicate}
 use Rattle.octets.specs.Choice.{if_then_else_}
 use Rattle.record.specs.declared.Record.{Record}
+use Rattle.record.specs.Window.{windowNo}
 use Rattle.record.specs.Events.{settled}
 use Rattle.replies.specs.Status.{firstOf}
 use Rattle.replies.specs.declared.Reply.{Reply}
 use Rattle.replies.specs.Answers.{Answer, refused, Replied}
 use Rattle.table.specs.Layout.{wordsOf, recordOf}
 use Rattle.table.specs.Table.{row, put}
+use Rattle.pages.specs.Features.{configPage}
+use Rattle.pages.specs.Latency.{latencySize, latencyPage}
 use Rattle.card.specs.declared.commands.Command.{Command}
 use Rattle.card.specs.declared.commands.Kind.{Kind}
-use Rattle.card.specs.Commanded.{ruleBy, doneBy}
+use Rattle.card.specs.declared.commands.Kind.the-variants.{SetConfig, SetWindow, GetConfig, GetWindow, ReadLatency, ReadAggregate, Identify}
+use Rattle.card.specs.Commands.{offset}
+use Rattle.card.specs.Commanded.{ruleBy, modeNo, doneBy}
 use Rattle.card.specs.StatusTable.{earlyLines, lateLines}
+
+-- the answer of `doneBy` as it is handed out: dword 0, a page, and the part of it; a command without data hands out no byte of
+-- its page of zeros
+abbrev pub dwordBy : Kind → Record → ℕ
+dwordBy SetConfig r = 0
+dwordBy SetWindow r = 0
+dwordBy GetConfig r = modeNo (r .state)
+dwordBy GetWindow r = windowNo (r .state .window)
+dwordBy ReadLatency r = 0
+dwordBy ReadAggregate r = 0
+dwordBy Identify r = 0
+
+abbrev pub pageBy : Kind → Record → List ℕ
+pageBy SetConfig r = replicate latencySize 0
+pageBy SetWindow r = replicate latencySize 0
+pageBy GetConfig r = configPage (r .state .config)
+pageBy GetWindow r = replicate latencySize 0
+pageBy ReadLatency r = latencyPage r
+pageBy ReadAggregate r = replicate latencySize 0
+pageBy Identify r = replicate latencySize 0
+
+abbrev pub fromBy : Kind → Command → ℕ
+fromBy SetConfig c = 0
+fromBy SetWindow c = 0
+fromBy GetConfig c = 0
+fromBy GetWindow c = 0
+fromBy ReadLatency c = offset c
+fromBy ReadAggregate c = 0
+fromBy Identify c = 0
 
 -- the status of the command on this set
 unfoldable pub statusOn : Kind → Command → ℕ → ℕ → Record → ℕ
