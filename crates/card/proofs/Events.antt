@@ -21,14 +21,14 @@ use Rattle.card.specs.declared.media.Media.{Media}
 use Rattle.card.specs.declared.media.Media.the-variants.{Reads, Writes, Excursion}
 use Rattle.card.specs.Items.{Item, tick, The}
 use Rattle.card.specs.Meanings.{event, ticked, meaning}
-use Rattle.card.specs.Media.{itemOf, effectOf, tickOne}
+use Rattle.card.specs.Media.{itemOf, mediaRule, tickOne}
 use Rattle.card.specs.Card.{statusAll, statusOf, concerns, touched, effectOn, answer}
 use Rattle.card.specs.Words.{cardOf, Stepped}
 use Rattle.card.proofs.Lists.{map-same}
 use Rattle.card.proofs.Shapes.{touched-own}
 use Rattle.card.proofs.Frame.{step-bad, step-legal, step-refused, step-unknown, step-done, here}
 
-pub meaning-media : (id : ℕ) (m : Media) → meaning (itemOf id m) ≡ The id (event (effectOf m))
+pub meaning-media : (id : ℕ) (m : Media) → meaning (itemOf id m) ≡ The id (event (mediaRule m))
 unfolding meaning
 meaning-media id (Reads k) = refl
 meaning-media id (Writes k) = refl
@@ -48,17 +48,17 @@ module _ (ws : List ℕ) (id : ℕ) (m : Media) (e : Entry) (known : e ≡ enter
   pub event-unknown : e ≡ Unknown → Stepped ws (itemOf id m) ws unknownSet
   event-unknown q =
       let f = is-unknown ws id (sym known ∙ q) in
-      let r = step-unknown ws (itemOf id m) id (event (effectOf m)) (meaning-media id m) (f .0) (f .1) (λ z. omega arith) in
+      let r = step-unknown ws (itemOf id m) id (event (mediaRule m)) (meaning-media id m) (f .0) (f .1) (λ z. omega arith) in
       record { table = rw r; status = rw r }
 
   module _ (s : Slot) (q : e ≡ Here s) where
     -- the record that was loaded, the record that the rule made of it, and the table that has it
     pub event-here :
-        (r x : Record) (vs : List ℕ) → r ≡ recordOf (row ws (s .0)) → x ≡ settled r (effectOf m (r .attributes) (r .state))
+        (r x : Record) (vs : List ℕ) → r ≡ recordOf (row ws (s .0)) → x ≡ settled r (mediaRule m (r .attributes) (r .state))
         → vs ≡ put ws (s .0) (wordsOf x) → Stepped ws (itemOf id m) vs 0
     event-here r x vs er ex ev =
         let f = is-here ws id s (sym known ∙ q) in
-        let d = step-done ws (itemOf id m) id (event (effectOf m)) (meaning-media id m) (f .0) (s .0) (f .1) refl in
+        let d = step-done ws (itemOf id m) id (event (mediaRule m)) (meaning-media id m) (f .0) (s .0) (f .1) refl in
         record { table = rw d (rw (er) at (ev ∙ ap (λ (y : Record). put ws (s .0) (wordsOf y)) ex)); status = rw d }
 
 -- ---- ticks

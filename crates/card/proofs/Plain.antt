@@ -17,7 +17,7 @@ use Rattle.card.specs.declared.media.Media.{Media}
 use Rattle.card.specs.Lists.{first, join}
 use Rattle.card.specs.Items.{Card, Item, tick, The, Everybody}
 use Rattle.card.specs.Meanings.{event, ticked, meaning}
-use Rattle.card.specs.Media.{itemOf, effectOf}
+use Rattle.card.specs.Media.{itemOf, mediaRule}
 use Rattle.card.specs.Card.{has, statusBy, doneOne, doneBy, answerBy, answer}
 use Rattle.card.specs.Words.{cardOf, stepWords}
 use Rattle.card.proofs.Shapes.{bool-cases}
@@ -52,7 +52,7 @@ all-plain t c =
 
 event-plain : (id : ℕ) (m : Media) (c : Card) → Plain (answer c (itemOf id m))
 unfolding answer
-event-plain id m c = rw (meaning-media id m) (one-plain id (effectOf m) c)
+event-plain id m c = rw (meaning-media id m) (one-plain id (mediaRule m) c)
 
 tick-plain : (t : ℕ) (c : Card) → Plain (answer c (tick t))
 unfolding answer meaning

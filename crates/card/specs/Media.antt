@@ -15,10 +15,11 @@ itemOf id (Reads k) = reads id k
 itemOf id (Writes k) = writes id k
 itemOf id Excursion = excursion id
 
-abbrev pub effectOf : Media → Attributes → State → Effect
-effectOf (Reads k) a s = rules.readEvent k a s
-effectOf (Writes k) a s = rules.writeEvent k a s
-effectOf Excursion a s = rules.excursionEvent s
+-- its rule
+abbrev pub mediaRule : Media → Attributes → State → Effect
+mediaRule (Reads k) a s = rules.readEvent k a s
+mediaRule (Writes k) a s = rules.writeEvent k a s
+mediaRule Excursion a s = rules.excursionEvent s
 
 -- the record after a tick of t
 abbrev pub tickOne : ℕ → Record → Record

@@ -5,7 +5,7 @@ ghost use Rattle.record.specs.Events.{settled};
 ghost use Rattle.rules.specs.Rules.{tick};
 ghost use Rattle.table.specs.Table.{count, Legal, recordsOf, written};
 ghost use Rattle.card.specs.Items.{Item};
-ghost use Rattle.card.specs.Media.{effectOf, itemOf, tickOne};
+ghost use Rattle.card.specs.Media.{mediaRule, itemOf, tickOne};
 ghost use Rattle.card.specs.Words.{Stepped};
 use record::Attributes;
 use record::Effect;
@@ -32,7 +32,7 @@ pub enum Media {
 }
 
 fn effect_of(a: Attributes, s: State, m: Media) -> Effect
-    ensures { λ r. ⌜ r ≡ effectOf m a s ⌝ }
+    ensures { λ r. ⌜ r ≡ mediaRule m a s ⌝ }
 {
     match m {
         Media::Reads(k) => read_event(a, s, k),
@@ -43,7 +43,7 @@ fn effect_of(a: Attributes, s: State, m: Media) -> Effect
 
 // The record after an event.
 fn after_event(r: Record, m: Media) -> Record
-    ensures { λ x. ⌜ x ≡ settled r (effectOf m (r .attributes) (r .state)) ⌝ }
+    ensures { λ x. ⌜ x ≡ settled r (mediaRule m (r .attributes) (r .state)) ⌝ }
 {
     let a = r.attributes;
     let s = r.state;
