@@ -21,3 +21,4 @@ pub mod Firm
 pub mod Exact
 pub mod Idle
 pub mod Named
+pub mod Past

@@ -106,6 +106,14 @@ module _ (bytes ws : List ℕ) (s : ℕ) (e : s ≡ setUpStatus bytes (length ws
 
 -- ---- set-up's table is legal, and holds the new sets
 
+as-many : (bytes : List ℕ) (at n : ℕ) → length (map newRecord (attributesFrom bytes at n)) ≡ n
+as-many bytes at zero = refl
+as-many bytes at (suc n) = ap suc (as-many bytes (at + bodySize) n)
+
+pub new-length : (bytes : List ℕ) → length (newSets bytes) ≡ bodies bytes
+unfolding newSets
+new-length bytes = as-many bytes 0 (bodies bytes)
+
 module _ (bytes ws : List ℕ) (w : Well bytes (length ws)) where
   base : List ℕ
   base = set ws 0 (bodies bytes)
@@ -119,13 +127,8 @@ module _ (bytes ws : List ℕ) (w : Well bytes (length ws)) where
   base-sized =
       rw (base-count, length-set ws 0 (bodies bytes)) (together (inRange maxSets (bodies bytes)) _ (w .range) (le-leb (rowStart (bodies bytes)) (length ws) (w .room)))
 
-  many : (at n : ℕ) → length (map newRecord (attributesFrom bytes at n)) ≡ n
-  many at zero = refl
-  many at (suc n) = ap suc (many (at + bodySize) n)
-
   new-many : length (newSets bytes) ≡ count base
-  unfolding newSets
-  new-many = many 0 (bodies bytes) ∙ sym base-count
+  new-many = new-length bytes ∙ sym base-count
 
   pub new-legal-table : legalTable (newTable bytes ws) ≡ true
   unfolding base

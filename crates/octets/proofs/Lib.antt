@@ -3,3 +3,4 @@ pub mod Runs
 pub mod Turns
 pub mod Laws
 pub mod Pages
+pub mod Passed

@@ -1,3 +1,4 @@
 pub mod Choice
 pub mod Octets
 pub mod Pages
+pub mod Words

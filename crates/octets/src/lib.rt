@@ -1,5 +1,7 @@
 // Numbers as little-endian bytes, pages made of fields, parts of pages and runs of words.
 // Nothing here knows of the card.
+pub mod words;
+
 ghost use mathlib.Core.Path.{_≡_};
 ghost use mathlib.Core.Bool.{true};
 ghost use Prim.Native.Nat.{_+_, _<_, _≤_};

@@ -5,7 +5,7 @@ use mathlib.Core.List.{List, [], _∷_, map}
 use Prim.Native.Nat.{ℕ, zero, suc, _≤_, _<_}
 use native.Mathlib.Omega.{arith}
 use native.Mathlib.Nat.{not-suc-le-zero, zero-add}
-use borrow.Author.Tests.{leb-true, le-leb, lt-leb}
+use borrow.Author.Tests.{leb-true, le-leb, lt-leb, lt-ltb}
 use lib.Dec.{ltb, leb}
 use lib.ListN.{length, getD, List·getD-eq-default}
 use Rattle.octets.proofs.Tests.{both}
@@ -18,7 +18,7 @@ use Rattle.table.specs.declared.Found.the-variants.{At, Nothing}
 use Rattle.table.specs.declared.Entry.the-variants.{Bad, Unknown, Here}
 use Rattle.table.specs.Layout.{wordsOf, recordOf}
 use Rattle.record.specs.Legal.{maxSets}
-use Rattle.table.specs.Table.{count, rowStart, row, rows, recordsOf, idOf, legalRow, legalAfter, legalRows, legalSets, sized, legalTable, Legal, findIn, entryOf, enterIn}
+use Rattle.table.specs.Table.{count, rowStart, row, rows, recordsOf, idOf, legalRow, legalAfter, legalRows, legalSets, roomFor, sized, extentOf, legalTable, Legal, findIn, entryOf, enterIn}
 use Rattle.table.proofs.Records.{Row, row-of, words-legal, record-back}
 use Rattle.table.proofs.Slots.{rows-at, length-rows}
 
@@ -34,14 +34,21 @@ sized-known ws h =
     record { some = leb-true _ _ (q .0); few = leb-true _ _ (q .1); room = leb-true _ _ (p .1) }
 
 -- how the code finds it out
+pub room-many : (n room : ℕ) → maxSets < n → roomFor n room ≡ false
+room-many n room h = rw (lt-leb n maxSets h, and-false)
+
+pub room-few : (n room : ℕ) → n ≤ maxSets → roomFor n room ≡ leb 1 n && leb (rowStart n) room
+room-few n room h = rw (le-leb n maxSets h, and-true)
+
+pub some-extent : (n room : ℕ) → ltb 0 (extentOf n room) ≡ roomFor n room
+some-extent n room = by (roomFor n room)
+  where
+    by : (b : Bool) → ltb 0 (if b then rowStart n else 0) ≡ b
+    by true = lt-ltb 0 (rowStart n) (omega arith)
+    by false = refl
+
 pub sized-empty : (ws : List ℕ) → length ws ≡ 0 → sized ws ≡ false
 sized-empty ws h = let l : length ws ≤ 0 = omega arith in let e : count ws ≡ 0 = simp List·getD-eq-default in rw e
-
-pub sized-many : (ws : List ℕ) → maxSets < count ws → sized ws ≡ false
-sized-many ws h = rw (lt-leb (count ws) maxSets h, and-false)
-
-pub sized-few : (ws : List ℕ) → count ws ≤ maxSets → sized ws ≡ leb 1 (count ws) && leb (rowStart (count ws)) (length ws)
-sized-few ws h = rw (le-leb (count ws) maxSets h, and-true)
 
 pub legal-known : (ws : List ℕ) → legalTable ws ≡ true → Legal ws
 unfolding legalTable

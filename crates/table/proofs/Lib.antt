@@ -4,3 +4,4 @@ pub mod Slots
 pub mod Known
 pub mod Turns
 pub mod Written
+pub mod Past

@@ -76,9 +76,16 @@ abbrev pub legalSets : ℕ → List Record → Bool
 legalSets before [] = true
 legalSets before (r ∷ rs) = legalRecord r && ltb before (idOf r) && legalSets (idOf r) rs
 
--- "1 to 31 sets", and a slice that is not too short for them
+-- "1 to 31 sets", and room that is not too short for them
+abbrev pub roomFor : ℕ → ℕ → Bool
+roomFor n room = inRange maxSets n && leb (rowStart n) room
+
 abbrev pub sized : List ℕ → Bool
-sized ws = inRange maxSets (count ws) && leb (rowStart (count ws)) (length ws)
+sized ws = roomFor (count ws) (length ws)
+
+-- how many words the table of n sets takes, or 0 where so much room has none of that number
+abbrev pub extentOf : ℕ → ℕ → ℕ
+extentOf n room = if roomFor n room then rowStart n else 0
 
 -- "Legal table"
 unfoldable pub legalTable : List ℕ → Bool

@@ -9,7 +9,7 @@ ghost use lib.ListN.{length, replicate};
 ghost use lib.Seq.{sets};
 ghost use Rattle.table.specs.Layout.{wordsOf, recordOf};
 ghost use Rattle.record.specs.Legal.{maxSets};
-ghost use Rattle.table.specs.Table.{count, rowStart, row, rows, put, sized, legalRows, legalTable, Legal, idOf, recordsOf, findIn, enterIn, listedWord};
+ghost use Rattle.table.specs.Table.{count, rowStart, row, rows, put, extentOf, sized, legalRows, legalTable, Legal, idOf, recordsOf, findIn, enterIn, listedWord};
 use crate::rows::HEADER;
 use crate::rows::LISTED;
 use crate::rows::ROW;
@@ -77,18 +77,25 @@ pub fn count_of(table: &[u64]) -> usize
     wide(table[0])
 }
 
-// The count is held against the maximum before it is multiplied, so that no count wraps.
+// How many words the table of n sets takes, or 0 where so much room has none of that number.
+// The number is held against the maximum before it is multiplied, so that no number wraps.
+pub fn extent(n: usize, room: usize) -> usize
+    ensures { λ r. ⌜ r ≡ extentOf n room ⌝ }
+{
+    if MAX_SETS < n {
+        return 0;
+    }
+    let end = HEADER + n * ROW;
+    if (1 <= n) & (end <= room) { end } else { 0 }
+}
+
 fn fits(table: &[u64]) -> bool
     ensures { λ r. ⌜ r ≡ sized (now (table .entry)) ⌝ }
 {
     if table.len() == 0 {
         return false;
     }
-    let n = wide(table[0]);
-    if MAX_SETS < n {
-        return false;
-    }
-    (1 <= n) & (HEADER + n * ROW <= table.len())
+    0 < extent(wide(table[0]), table.len())
 }
 
 fn rows_legal(table: &[u64], n: usize) -> bool

@@ -1,7 +1,8 @@
 use mathlib.Core.Path.{sym}
-use native.Mathlib.Omega.{arith}
+use lib.ListN.{length}
+use Rattle.table.specs.Table.{count}
 use borrow.Author.Needs.{needs}
-use Rattle.table.proofs.Known.{sized-empty, sized-many, sized-few}
+use Rattle.table.proofs.Known.{sized-empty, some-extent}
 use Rattle.table.proofs.fits.Statement.{statement}
 use Rattle.table.proofs.fits.Tie as tie
 
@@ -12,7 +13,5 @@ fits-spec =
     (λ c. sym (sized-empty (c .before .before .args .table .now) (c .if1 .taken)))
     (λ c. search needs)
     (λ c κs. search needs)
-    (λ c. sym (sized-many (c .before .before .before .before .before .args .table .now) (omega (arith, c .if2 .taken, c .before .wide .ensures))))
-    (λ c. search needs)
-    (λ c. search needs)
-    (λ c. simp (c .before .wide .ensures) (sym (sized-few (c .before .before .before .before .before .args .table .now) (omega (arith, c .if2 .left, c .before .wide .ensures))))))
+    (λ c κs. search needs)
+    (λ c. let ws = c .before .before .before .before .before .args .table .now in rw (c .extent .ensures, c .before .wide .ensures) (some-extent (count ws) (length ws))))

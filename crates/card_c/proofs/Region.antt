@@ -1,0 +1,223 @@
+-- A region as words: the first of them, worked on and put back, are what the whole region's words would be.
+use mathlib.Core.Path.{_≡_, refl, sym, ap, ap₂, subst, _∙_}
+use mathlib.Core.Bool.{Bool, true, false, _&&_}
+use mathlib.Core.List.{List, [], _∷_, _++_}
+use mathlib.Core.Logic.{⊎-elim}
+use Prim.Native.Nat.{ℕ, zero, suc, _+_, _*_, _-_, _/_, _≤_, _<_, min}
+use native.Mathlib.Omega.{arith}
+use native.Mathlib.Nat.{zero-add, le-refl}
+use borrow.Author.Tests.{leb-true, leb-false}
+use lib.Dec.{leb}
+use lib.ListN.{length}
+use lib.Seq.{sets}
+use Rattle.octets.specs.Choice.{if_then_else_}
+use Rattle.octets.specs.Octets.{numberOf, part}
+use Rattle.octets.specs.Words.{wordSize, wordsFrom, putWords}
+use Rattle.octets.proofs.Tests.{both}
+use Rattle.octets.proofs.Passed.{AllBytes, length-words, words-append, own-words, put-first}
+use Rattle.record.specs.Legal.{maxSets, inRange}
+use Rattle.replies.specs.declared.Reply.{Reply}
+use Rattle.replies.specs.Answers.{Answer, Replied}
+use Rattle.table.specs.Table.{count, rowStart, roomFor, sized, extentOf}
+use Rattle.table.proofs.Known.{sized-known, sized-empty}
+use Rattle.card.specs.Items.{Item}
+use Rattle.card.specs.Words.{Result, stepWords, Stepped, Answered}
+use Rattle.card.specs.SetUp.{setUp, SetUp}
+use Rattle.card.proofs.Shapes.{bool-cases}
+use Rattle.card.proofs.Past.{beside, step-unsized, step-past, length-step, set-up-past, length-set-up}
+use Rattle.card_c.specs.Entries.{tableIn, tableOut, EventAtC, SetUpAtC, AnswerAtC, replyPart, CommandAtC}
+use Rattle.card_c.specs.declared.lent.Report.{Report}
+use Rattle.card_c.specs.Lent.{itemBy, Extent, EventOn, SetUpOn, AnswerOn}
+
+-- ---- how many words are a table's
+
+record Within (l e : ℕ) : Type 0 where
+  few : e ≤ rowStart maxSets
+  room : e ≤ l
+
+within : (n room : ℕ) (b : Bool) → roomFor n room ≡ b → Within room (if b then rowStart n else 0)
+within n room true h =
+    let p = both (inRange maxSets n) _ h in
+    let few : n ≤ maxSets = leb-true n maxSets (both (leb 1 n) _ (p .0) .1) in
+    record { few = omega arith; room = leb-true (rowStart n) room (p .1) }
+within n room false h = record { few = omega arith; room = omega arith }
+
+length-table : (region : List ℕ) → length (tableIn region) ≡ length region / wordSize
+length-table region = length-words region 0 (length region / wordSize)
+
+pub extent-none : (region : List ℕ) → length region / wordSize ≡ 0 → Extent region 0
+extent-none region h =
+    record { words = rw h; few = omega arith; room = omega arith }
+
+header : (region : List ℕ) (l : ℕ) → 1 ≤ l → count (wordsFrom region 0 l) ≡ numberOf (part region 0 wordSize)
+header region zero h = absurd (omega arith)
+header region (suc l) h = refl
+
+pub extent-some :
+    (region : List ℕ) (r : ℕ) → (length region / wordSize ≡ 0 → ⊥) → r ≡ extentOf (numberOf (part region 0 wordSize)) (length region / wordSize)
+    → Extent region r
+extent-some region r h e =
+    let n = numberOf (part region 0 wordSize) in
+    let l = length region / wordSize in
+    let w = within n l (roomFor n l) refl in
+    record {
+      words = rw (length-table region, header region l (omega arith)) e;
+      few = rw e (w .few);
+      room = omega (arith, e, w .room);
+    }
+
+-- ---- the first n words of a region, and the others
+
+module _ (region : List ℕ) (n : ℕ) (fits : n ≤ length region / wordSize) where
+  abbrev first : List ℕ
+  first = wordsFrom region 0 n
+
+  abbrev past : List ℕ
+  past = wordsFrom region (n * wordSize) (length region / wordSize - n)
+
+  halves : tableIn region ≡ first ++ past
+  halves =
+      let e : length region / wordSize ≡ n + (length region / wordSize - n) = omega arith in
+      ap (wordsFrom region 0) e
+      ∙ words-append region 0 n (length region / wordSize - n)
+      ∙ ap (λ (k : ℕ). wordsFrom region 0 n ++ wordsFrom region k (length region / wordSize - n)) (zero-add (n * wordSize))
+
+  -- what was worked out of the first n words, put back, where nothing is done to the others
+  put-back : (xs : List ℕ) → AllBytes region → length xs ≡ n → tableOut region xs ≡ tableOut region (xs ++ past)
+  put-back xs each e = sym (put-first xs region n (length region / wordSize - n) each e (omega arith))
+
+-- a region's own words, put back
+pub own-region : (region : List ℕ) → AllBytes region → tableOut region (tableIn region) ≡ region
+own-region region each = own-words (length region / wordSize) 0 region region each refl (omega arith)
+
+-- ---- the step on the table's words alone is the step on all of the region's
+
+record Same (region some all : List ℕ) (i : Item) : Type 0 where
+  table : tableOut region (stepWords some i .table) ≡ tableOut region (stepWords all i .table)
+  answer : stepWords some i .answer ≡ stepWords all i .answer
+
+module _ (region : List ℕ) (each : AllBytes region) (i : Item) where
+  -- no table: nothing is taken out
+  nothing : sized (tableIn region) ≡ false → Same region [] (tableIn region) i
+  nothing h =
+      let a = step-unsized (tableIn region) i h in
+      let z = step-unsized [] i (sized-empty [] refl) in
+      record { table = rw (a, z) (sym (own-region region each)); answer = rw (a, z) }
+
+  some : sized (tableIn region) ≡ true → (n : ℕ) → n ≡ rowStart (count (tableIn region)) → Same region (wordsFrom region 0 n) (tableIn region) i
+  some h n e =
+      let l = length region / wordSize in
+      let z = sized-known (tableIn region) h in
+      let fits : n ≤ l = omega (arith, z .room, e, length-table region) in
+      let ws = first region n fits in
+      let more = past region n fits in
+      let both-heads : count ws ≡ count (tableIn region) = header region n (omega arith) ∙ sym (header region l (omega arith)) in
+      let room : rowStart (count ws) ≤ length ws = rw (both-heads, length-words region 0 n, ← e) (le-refl n) in
+      let split = ap (λ (x : List ℕ). stepWords x i) (halves region n fits) ∙ step-past more ws room i in
+      record {
+        table = put-back region n fits (stepWords ws i .table) each (length-step ws i ∙ length-words region 0 n) ∙ sym (ap (λ (x : Result). tableOut region (x .table)) split);
+        answer = sym (ap (λ (x : Result). x .answer) split);
+      }
+
+  by-room :
+      (b : Bool) → sized (tableIn region) ≡ b → (n : ℕ) → n ≡ (if b then rowStart (count (tableIn region)) else 0)
+      → Same region (wordsFrom region 0 n) (tableIn region) i
+  by-room true h n e = some h n e
+  by-room false h n e = rw e (nothing h)
+
+  same : (n : ℕ) → Extent region n → Same region (wordsFrom region 0 n) (tableIn region) i
+  same n x = by-room (sized (tableIn region)) refl n (x .words)
+
+-- ---- what the functions inside promise of n words is what the public ones promise of the region
+
+-- m is how long the lent part of a local is
+pub event-at :
+    (region : List ℕ) (n m : ℕ) (i : Item) (after : List ℕ) (number : ℕ)
+    → AllBytes region → Extent region n → EventOn region m i after number → m ≡ n → EventAtC region i after number
+event-at region n m i after number each x on e =
+    let s = same region each i m (rw e x) in
+    record { table = on .table ∙ s .table; status = on .status ∙ ap (λ (a : Answer). a .status) (s .answer) }
+
+pub answer-at :
+    (region : List ℕ) (n m : ℕ) (i : Item) (before : List ℕ) (r : Reply) (after buffer : List ℕ)
+    → AllBytes region → Extent region n → AnswerOn region m i before r after buffer → m ≡ n → AnswerAtC region i before r after buffer
+answer-at region n m i before r after buffer each x on e =
+    let s = same region each i m (rw e x) in
+    record { table = on .table ∙ s .table; reply = subst (λ (a : Answer). Replied a before r buffer) (s .answer) (on .reply) }
+
+-- ---- set-up, on no more words than the most sets take
+
+set-up-all :
+    (bodies region : List ℕ) (n : ℕ) (after : List ℕ) (number : ℕ) → n ≡ length region / wordSize → SetUpOn bodies region n after number → SetUpAtC bodies region after number
+set-up-all bodies region n after number e on = record { table = rw (← e) (on .table); status = rw (← e) (on .status) }
+
+set-up-most :
+    (bodies region : List ℕ) (n : ℕ) (after : List ℕ) (number : ℕ) → n ≤ length region / wordSize → n ≡ rowStart maxSets → AllBytes region → SetUpOn bodies region n after number → SetUpAtC bodies region after number
+set-up-most bodies region n after number fits e each on =
+    let ws = first region n fits in
+    let more = past region n fits in
+    let room : rowStart maxSets ≤ length ws = rw (length-words region 0 n, ← e) (le-refl n) in
+    let split = ap (λ (x : List ℕ). setUp bodies x) (halves region n fits) ∙ set-up-past more ws bodies room in
+    record {
+      table =
+          on .table
+          ∙ put-back region n fits (setUp bodies ws .table) each (length-set-up bodies ws ∙ length-words region 0 n)
+          ∙ sym (ap (λ (x : Result). tableOut region (x .table)) split);
+      status = on .status ∙ sym (ap (λ (x : Result). x .answer .status) split);
+    }
+
+pub set-up-at :
+    (bodies region : List ℕ) (n : ℕ) (after : List ℕ) (number : ℕ)
+    → AllBytes region → SetUpOn bodies region n after number → n ≡ min (length region / wordSize) (rowStart maxSets) → SetUpAtC bodies region after number
+set-up-at bodies region n after number each on e =
+    ⊎-elim
+    (λ h. set-up-all bodies region n after number (omega (arith, leb-true (length region / wordSize) (rowStart maxSets) h)) on)
+    (λ h. set-up-most bodies region n after number (omega arith) (omega (arith, leb-false (length region / wordSize) (rowStart maxSets) h)) each on)
+    (bool-cases (leb (length region / wordSize) (rowStart maxSets)))
+
+-- ---- words taken out, worked on and put back
+
+pub event-on :
+    (region : List ℕ) (n : ℕ) (i : Item) (before words after : List ℕ) (number : ℕ)
+    → before ≡ wordsFrom region 0 n → Stepped before i words number → after ≡ putWords region 0 words → EventOn region n i after number
+event-on region n i before words after number e s p =
+    record {
+      table = p ∙ ap (putWords region 0) (s .table ∙ ap (λ (x : List ℕ). stepWords x i .table) e);
+      status = s .status ∙ ap (λ (x : List ℕ). stepWords x i .answer .status) e;
+    }
+
+pub answer-on :
+    (region : List ℕ) (n : ℕ) (i : Item) (buffer : List ℕ) (r : Reply) (before words after handed : List ℕ)
+    → before ≡ wordsFrom region 0 n → Answered before i buffer r words handed → after ≡ putWords region 0 words → AnswerOn region n i buffer r after handed
+answer-on region n i buffer r before words after handed e a p =
+    record {
+      table = p ∙ ap (putWords region 0) (a .table ∙ ap (λ (x : List ℕ). stepWords x i .table) e);
+      reply = subst (λ (x : List ℕ). Replied (stepWords x i .answer) buffer r handed) e (a .reply);
+    }
+
+pub set-up-on :
+    (bodies region : List ℕ) (n : ℕ) (before words after : List ℕ) (number : ℕ)
+    → before ≡ wordsFrom region 0 n → SetUp bodies before words number → after ≡ putWords region 0 words → SetUpOn bodies region n after number
+set-up-on bodies region n before words after number e s p =
+    record {
+      table = p ∙ ap (putWords region 0) (s .table ∙ ap (λ (x : List ℕ). setUp bodies x .table) e);
+      status = s .status ∙ ap (λ (x : List ℕ). setUp bodies x .answer .status) e;
+    }
+
+pub told : (ws : List ℕ) (r s : Report) (after : List ℕ) (number : ℕ) → r ≡ s → Stepped ws (itemBy s) after number → Stepped ws (itemBy r) after number
+told ws r s after number e h = rw e h
+
+-- ---- a command's reply, as bytes
+
+pub command-at :
+    (region : List ℕ) (i : Item) (before reply₀ : List ℕ) (r : Reply) (after buffer said : List ℕ)
+    → AnswerAtC region i before r after buffer → said ≡ sets reply₀ 0 (replyPart (r .dword) (r .len) (length reply₀))
+    → CommandAtC region i before reply₀ (r .status) after buffer said
+command-at region i before reply₀ r after buffer said a e =
+    let p = a .reply in
+    record {
+      table = a .table;
+      status = p .status;
+      answer = p .buffer;
+      reply = e ∙ ap₂ (λ (d n : ℕ). sets reply₀ 0 (replyPart d n (length reply₀))) (p .dword) (p .len);
+    }

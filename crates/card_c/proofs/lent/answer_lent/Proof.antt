@@ -1,0 +1,29 @@
+use Prim.Native.Nat.{ℕ}
+use borrow.Author.Needs.{needs}
+use Rattle.card_c.proofs.Region.{answer-at}
+use Rattle.card_c.proofs.lent.answer_lent.Statement.{statement}
+use Rattle.card_c.proofs.lent.answer_lent.Tie as tie
+
+pub answer-lent-spec : {M : Type 1} → statement M
+answer-lent-spec =
+    tie.close
+    (tie.spec
+    (λ c κs. search needs)
+    (λ c. search needs)
+    (λ c. search needs)
+    (λ c. search needs)
+    (λ c κs. search needs)
+    (λ c. search needs)
+    (λ c. search needs)
+    (λ c. search needs)
+    (λ c κs. search needs)
+    (λ c. search needs)
+    (λ c. search needs)
+    (λ c.
+    let t = c .before .before .before .before .before .before .before .before .before .before in
+    answer-at _ _ _ _ _ _ _ _ (λ (i : ℕ). t .before .before .before .before .before .slice-known .given i .fits) (t .table-words .ensures) (c .before .before .before .before .before .answer-on .ensures) (search needs))
+    (λ c. search needs)
+    (λ c. search needs)
+    (λ c.
+    let t = c .before .before .before .before .before .before .before .before .before .before in
+    answer-at _ _ _ _ _ _ _ _ (λ (i : ℕ). t .before .before .before .before .before .slice-known .given i .fits) (t .table-words .ensures) (c .before .before .before .before .before .answer-on2 .ensures) (search needs)))

@@ -1,0 +1,16 @@
+use borrow.Author.Needs.{needs}
+use Rattle.card_c.proofs.Region.{answer-on}
+use Rattle.card_c.proofs.lent.answer_on.Statement.{statement}
+use Rattle.card_c.proofs.lent.answer_on.Tie as tie
+
+pub answer-on-spec : {M : Type 1} → statement M
+answer-on-spec =
+    tie.close
+    (tie.spec
+    (λ c κs. search needs)
+    (λ c κs. search needs)
+    (λ c κs. search needs)
+    (λ c. search needs)
+    (λ c. search needs)
+    (λ c. search needs)
+    (λ c. answer-on _ _ _ _ _ _ _ _ _ (c .before .before .before .before .before .before .before .before .before .before .before .before .before .before .words-in .ensures) (c .before .before .before .before .before .before .before .before .before .command .ensures) (c .before .before .words-out .ensures)))

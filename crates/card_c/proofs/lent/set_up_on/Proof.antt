@@ -1,0 +1,15 @@
+use borrow.Author.Needs.{needs}
+use Rattle.card_c.proofs.Region.{set-up-on}
+use Rattle.card_c.proofs.lent.set_up_on.Statement.{statement}
+use Rattle.card_c.proofs.lent.set_up_on.Tie as tie
+
+pub set-up-on-spec : {M : Type 1} → statement M
+set-up-on-spec =
+    tie.close
+    (tie.spec
+    (λ c κs. search needs)
+    (λ c κs. search needs)
+    (λ c κs. search needs)
+    (λ c. search needs)
+    (λ c. search needs)
+    (λ c. set-up-on _ _ _ _ _ _ _ (c .before .before .before .before .before .before .before .before .before .before .before .words-in .ensures) (c .before .before .before .before .before .before .before .set-up .ensures) (c .before .before .words-out .ensures)))

@@ -1,0 +1,17 @@
+use mathlib.Core.Path.{_∙_}
+use borrow.Author.Needs.{needs}
+use Rattle.octets.proofs.Pages.{placed}
+use Rattle.card_c.specs.Entries.{replyPage}
+use Rattle.card_c.proofs.reply.reply_page.Statement.{statement}
+use Rattle.card_c.proofs.reply.reply_page.Tie as tie
+
+pub reply-page-spec : {M : Type 1} → statement M
+unfolding replyPage
+reply-page-spec =
+    tie.close
+    (tie.spec
+    (λ c κs. search needs)
+    (λ c. search needs)
+    (λ c. search needs)
+    (λ c κs. search needs)
+    (λ c. c .before .fill .ensures ∙ rw (c .before .before .before .before .wide .ensures) (placed 16 _)))

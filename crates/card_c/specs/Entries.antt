@@ -1,0 +1,58 @@
+-- 01: "The C firmware calls the library through a handful of C functions on numbers and byte slices; there the table passes as
+-- its words' little-endian bytes." What each of them promises, through the same step and the same set-up.
+use mathlib.Core.Path.{_≡_}
+use mathlib.Core.List.{List, [], _∷_}
+use Prim.Native.Nat.{ℕ, _/_, min}
+use lib.ListN.{length}
+use lib.Seq.{sets}
+use Rattle.octets.specs.Octets.{padded}
+use Rattle.octets.specs.Pages.{field, place}
+use Rattle.octets.specs.Words.{wordSize, wordsFrom, putWords}
+use Rattle.replies.specs.declared.Reply.{Reply}
+use Rattle.replies.specs.Answers.{Answer, Replied}
+use Rattle.card.specs.Items.{Item}
+use Rattle.card.specs.Words.{Result, stepWords}
+use Rattle.card.specs.SetUp.{setUp}
+
+-- the words of a region: of a length that is no multiple of 8 the whole words count, and the rest is past the table
+abbrev pub tableIn : List ℕ → List ℕ
+tableIn region = wordsFrom region 0 (length region / wordSize)
+
+-- the region with other words in their place
+abbrev pub tableOut : List ℕ → List ℕ → List ℕ
+tableOut region ws = putWords region 0 ws
+
+-- a media event or a tick: the region afterwards, and the number returned
+pub record EventAtC (region : List ℕ) (i : Item) (after : List ℕ) (number : ℕ) : Type 0 where
+  pub table : after ≡ tableOut region (stepWords (tableIn region) i .table)
+  pub status : number ≡ stepWords (tableIn region) i .answer .status
+
+-- set-up
+pub record SetUpAtC (bodies region after : List ℕ) (number : ℕ) : Type 0 where
+  pub table : after ≡ tableOut region (setUp bodies (tableIn region) .table)
+  pub status : number ≡ setUp bodies (tableIn region) .answer .status
+
+-- a command: the region, and its reply by value with every byte of the answer buffer
+pub record AnswerAtC (region : List ℕ) (i : Item) (before : List ℕ) (r : Reply) (after buffer : List ℕ) : Type 0 where
+  pub table : after ≡ tableOut region (stepWords (tableIn region) i .table)
+  pub reply : Replied (stepWords (tableIn region) i .answer) before r buffer
+
+-- ---- what a command says beside its status, in a region of its own
+
+-- "dword 0 and the length of data, little-endian, .. the rest zero"
+abbrev pub replySize : ℕ
+replySize = 16
+
+unfoldable pub replyPage : ℕ → ℕ → List ℕ
+replyPage dword len = place replySize (field 0 4 dword ∷ field 4 4 len ∷ [])
+
+-- "as far as the slice reaches"
+abbrev pub replyPart : ℕ → ℕ → ℕ → List ℕ
+replyPart dword len room = padded (replyPage dword len) 0 (min room replySize)
+
+-- a command: the number returned, the region, and every byte of the answer buffer and of the reply
+pub record CommandAtC (region : List ℕ) (i : Item) (before reply₀ : List ℕ) (number : ℕ) (after buffer said : List ℕ) : Type 0 where
+  pub table : after ≡ tableOut region (stepWords (tableIn region) i .table)
+  pub status : number ≡ stepWords (tableIn region) i .answer .status
+  pub answer : buffer ≡ sets before 0 (stepWords (tableIn region) i .answer .bytes)
+  pub reply : said ≡ sets reply₀ 0 (replyPart (stepWords (tableIn region) i .answer .dword) (length (stepWords (tableIn region) i .answer .bytes)) (length reply₀))

@@ -1,0 +1,40 @@
+-- Only for functions inside the crate: the first n words of a region, taken out, worked on and put back.
+use mathlib.Core.Path.{_≡_}
+use mathlib.Core.List.{List}
+use Prim.Native.Nat.{ℕ, _*_, _≤_}
+use lib.ListN.{length}
+use Rattle.octets.specs.Words.{wordSize, wordsFrom}
+use Rattle.replies.specs.declared.Reply.{Reply}
+use Rattle.replies.specs.Answers.{Replied}
+use Rattle.record.specs.Legal.{maxSets}
+use Rattle.table.specs.Table.{count, rowStart, extentOf}
+use Rattle.card.specs.Items.{Item, tick}
+use Rattle.card.specs.Media.{itemOf}
+use Rattle.card.specs.Words.{stepWords}
+use Rattle.card.specs.SetUp.{setUp}
+use Rattle.card_c.specs.declared.lent.Report.{Report}
+use Rattle.card_c.specs.declared.lent.Report.the-variants.{OfSet, Tick}
+use Rattle.card_c.specs.Entries.{tableIn, tableOut}
+
+abbrev pub itemBy : Report → Item
+itemBy (OfSet id m) = itemOf id m
+itemBy (Tick t) = tick t
+
+-- as many words as the region's header says, or none
+pub record Extent (region : List ℕ) (n : ℕ) : Type 0 where
+  pub words : n ≡ extentOf (count (tableIn region)) (length (tableIn region))
+  pub few : n ≤ rowStart maxSets
+  pub room : n * wordSize ≤ length region
+
+-- the step, set-up and a command on the first n words
+pub record EventOn (region : List ℕ) (n : ℕ) (i : Item) (after : List ℕ) (number : ℕ) : Type 0 where
+  pub table : after ≡ tableOut region (stepWords (wordsFrom region 0 n) i .table)
+  pub status : number ≡ stepWords (wordsFrom region 0 n) i .answer .status
+
+pub record AnswerOn (region : List ℕ) (n : ℕ) (i : Item) (before : List ℕ) (r : Reply) (after buffer : List ℕ) : Type 0 where
+  pub table : after ≡ tableOut region (stepWords (wordsFrom region 0 n) i .table)
+  pub reply : Replied (stepWords (wordsFrom region 0 n) i .answer) before r buffer
+
+pub record SetUpOn (bodies region : List ℕ) (n : ℕ) (after : List ℕ) (number : ℕ) : Type 0 where
+  pub table : after ≡ tableOut region (setUp bodies (wordsFrom region 0 n) .table)
+  pub status : number ≡ setUp bodies (wordsFrom region 0 n) .answer .status

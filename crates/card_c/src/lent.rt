@@ -1,0 +1,127 @@
+// A table that C lends as bytes: its words are taken out, the card's function is called on them, and they are put back.
+ghost use mathlib.Core.Path.{_≡_};
+ghost use Prim.Native.Nat.{_*_, _≤_};
+ghost use lib.ListN.{length};
+ghost use Rattle.octets.specs.Words.{wordSize};
+ghost use Rattle.card.specs.Items.{Item};
+ghost use Rattle.card.specs.Words.{Stepped};
+ghost use Rattle.card_c.specs.Entries.{EventAtC, SetUpAtC, AnswerAtC};
+ghost use Rattle.card_c.specs.Lent.{Extent, itemBy, EventOn, SetUpOn, AnswerOn};
+use crate::least;
+use card::answering::command;
+use card::media::Media;
+use card::media::event;
+use card::media::ticks;
+use card::setting::set_up;
+use octets::words::words_in;
+use octets::words::words_out;
+use record::SetId;
+use replies::Reply;
+
+// The words of 31 sets, and of 8: a small card is not to pay for a large one's room.
+const MOST: usize = 745;
+
+const FEW: usize = 193;
+
+// What the media layer and the clock report.
+pub(crate) enum Report {
+    OfSet(u16, Media),
+    Tick(u32),
+}
+
+fn wide(n: u64) -> usize
+    ensures { λ r. ⌜ r ≡ n ⌝ }
+{
+    n as usize
+}
+
+// How many words of a region are a table's, by its header; 0 where it has none.
+fn table_words(region: &[u8]) -> usize
+    ensures { λ r. ⌜ Extent (now (region .entry)) r ⌝ }
+{
+    let room = region.len() / 8;
+    if room == 0 {
+        return 0;
+    }
+    let n = octets::get(region, 0, 8);
+    table::extent(wide(n), room)
+}
+
+fn report_to(words: &mut [u64], r: Report) -> u16
+    ensures { λ x. ⌜ Stepped (now (words .entry)) (itemBy r) (now (words .exit)) x ⌝ }
+{
+    match r {
+        Report::OfSet(id, m) => event(words, SetId(id), m),
+        Report::Tick(t) => ticks(words, t),
+    }
+}
+
+fn note_on(region: &mut [u8], words: &mut [u64], r: Report) -> u16
+    requires { ⌜ length (now words) * wordSize ≤ length (now region) ⌝ }
+    ensures { λ x. ⌜ EventOn (now (region .entry)) (length (now (words .entry))) (itemBy r) (now (region .exit)) x ⌝ }
+{
+    words_in(region, words);
+    let status = report_to(words, r);
+    words_out(words, region);
+    status
+}
+
+pub(crate) fn note(region: &mut [u8], r: Report) -> u16
+    ensures { λ x. ⌜ EventAtC (now (region .entry)) (itemBy r) (now (region .exit)) x ⌝ }
+{
+    let n = table_words(region);
+    if n <= FEW {
+        let mut words = [0u64; FEW];
+        note_on(region, &mut words[0..n], r)
+    } else {
+        let mut words = [0u64; MOST];
+        note_on(region, &mut words[0..n], r)
+    }
+}
+
+fn answer_on(
+    region: &mut [u8],
+    words: &mut [u64],
+    bytes: &[u8],
+    given: &[u8],
+    answer: &mut [u8],
+) -> Reply
+    requires { ⌜ length (now words) * wordSize ≤ length (now region) ⌝ }
+    ensures { λ r. ⌜ AnswerOn (now (region .entry)) (length (now (words .entry))) (Item.command (now (bytes .entry)) (now (given .entry)) (length (now (answer .entry)))) (now (answer .entry)) r (now (region .exit)) (now (answer .exit)) ⌝ }
+{
+    words_in(region, words);
+    let reply = command(words, bytes, given, answer);
+    words_out(words, region);
+    reply
+}
+
+pub(crate) fn answer_lent(region: &mut [u8], bytes: &[u8], given: &[u8], answer: &mut [u8]) -> Reply
+    ensures { λ r. ⌜ AnswerAtC (now (region .entry)) (Item.command (now (bytes .entry)) (now (given .entry)) (length (now (answer .entry)))) (now (answer .entry)) r (now (region .exit)) (now (answer .exit)) ⌝ }
+{
+    let n = table_words(region);
+    if n <= FEW {
+        let mut words = [0u64; FEW];
+        answer_on(region, &mut words[0..n], bytes, given, answer)
+    } else {
+        let mut words = [0u64; MOST];
+        answer_on(region, &mut words[0..n], bytes, given, answer)
+    }
+}
+
+fn set_up_on(region: &mut [u8], words: &mut [u64], bodies: &[u8]) -> u16
+    requires { ⌜ length (now words) * wordSize ≤ length (now region) ⌝ }
+    ensures { λ x. ⌜ SetUpOn (now (bodies .entry)) (now (region .entry)) (length (now (words .entry))) (now (region .exit)) x ⌝ }
+{
+    words_in(region, words);
+    let status = set_up(words, bodies);
+    words_out(words, region);
+    status
+}
+
+pub(crate) fn new_table(region: &mut [u8], bodies: &[u8]) -> u16
+    ensures { λ x. ⌜ SetUpAtC (now (bodies .entry)) (now (region .entry)) (now (region .exit)) x ⌝ }
+{
+    let mut words = [0u64; MOST];
+    let n = least(region.len() / 8, MOST);
+    set_up_on(region, &mut words[0..n], bodies)
+}

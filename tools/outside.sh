@@ -1,0 +1,63 @@
+# Sourced by the scripts that build, link or run what lies outside the crates. What Rattle builds is x86-64; on a machine of
+# another kind it is linked by a cross compiler and run under an emulator, and these functions hide which.
+
+root=$(cd "$(dirname "${BASH_SOURCE[0]}")/.." && pwd)
+kit=$(dirname "$(dirname "$(readlink -f "$(command -v rt)")")")
+native=$([ "$(uname -m)" = x86_64 ] && echo yes || echo no)
+
+# Debian packages that a script needs, installed where they are missing.
+need() { # PACKAGE..
+    local missing=() log=$root/target/apt.log
+    mkdir -p "$root/target"
+    for package in "$@"; do
+        dpkg-query -W -f '${Status}' "$package" 2>/dev/null | grep -q 'ok installed' || missing+=("$package")
+    done
+    [ ${#missing[@]} -eq 0 ] && return
+    { apt-get update && DEBIAN_FRONTEND=noninteractive apt-get install -y --no-install-recommends "${missing[@]}"; } >"$log" 2>&1 ||
+        { tail -n 5 "$log" >&2; return 1; }
+}
+
+# A proved program of the repository, from target/bin.
+proved() { # NAME ARGS..
+    local program=$root/target/bin/$1 emulator=()
+    shift
+    [ $native = yes ] || emulator=("$kit/on/$(uname -m)/toolchain/bin/qemu-x86_64")
+    "${emulator[@]}" "$kit/toolchain/lib/ld-linux-x86-64.so.2" --library-path "$kit/toolchain/lib" "$program" "$@"
+}
+
+# A C compiler for x86-64; its programs are linked statically, since a dynamic one does not start under the emulator.
+x86_cc() { # ARGS..
+    if [ $native = yes ]; then
+        cc -static "$@"
+    else
+        need gcc-x86-64-linux-gnu libc6-dev-amd64-cross && x86_64-linux-gnu-gcc -static "$@"
+    fi
+}
+
+# The Rust compiler for x86-64. Debian's has the standard library for it; the installed one may not.
+x86_rustc() { # ARGS..
+    if [ $native = yes ]; then
+        rustc "$@"
+    else
+        dpkg --add-architecture amd64 && need rustc libstd-rust-dev:amd64 gcc-x86-64-linux-gnu libc6-dev-amd64-cross &&
+            /usr/bin/rustc --target x86_64-unknown-linux-gnu -C linker=x86_64-linux-gnu-gcc "$@"
+    fi
+}
+
+# A program made by one of the two above.
+x86() { # PROGRAM ARGS..
+    if [ $native = yes ]; then
+        "$@"
+    else
+        need qemu-user && qemu-x86_64 -L / "$@"
+    fi
+}
+
+# The archive of a library's C functions, made anew where anything of the crates has changed since.
+archive() { # NAME
+    local made=$root/target/staticlib/lib$1.a log=$root/target/staticlib.log
+    if [ ! -f "$made" ] || [ -n "$(find "$root/crates" "$root/crates.txt" -newer "$made" -print -quit)" ]; then
+        (cd "$root" && rt staticlib "$1") >"$log" 2>&1 || { tail -n 5 "$log" >&2; return 1; }
+    fi
+    echo "$made"
+}
