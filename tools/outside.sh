@@ -53,10 +53,16 @@ x86() { # PROGRAM ARGS..
     fi
 }
 
-# The archive of a library's C functions, made anew where anything of the crates has changed since.
+# Whether a file that Rattle made is there, and nothing of the crates has changed since.
+up_to_date() { # FILE
+    mkdir -p "$root/target"
+    [ -f "$1" ] && [ -z "$(find "$root/crates" "$root/crates.txt" -newer "$1" -print -quit)" ]
+}
+
+# The archive of a library's C functions, made anew where it has to be.
 archive() { # NAME
     local made=$root/target/staticlib/lib$1.a log=$root/target/staticlib.log
-    if [ ! -f "$made" ] || [ -n "$(find "$root/crates" "$root/crates.txt" -newer "$made" -print -quit)" ]; then
+    if ! up_to_date "$made"; then
         (cd "$root" && rt staticlib "$1") >"$log" 2>&1 || { tail -n 5 "$log" >&2; return 1; }
     fi
     echo "$made"

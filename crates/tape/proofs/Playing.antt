@@ -1,0 +1,143 @@
+-- Items of a tape: how long their bodies are, what their lines say, and what stands next.
+use mathlib.Core.Path.{_≡_, refl, sym, ap, subst, _∙_}
+use mathlib.Core.Bool.{Bool, true, false, _&&_}
+use mathlib.Core.List.{List, [], _∷_}
+use mathlib.Core.Option.{Option, none, some}
+use Prim.Native.Nat.{ℕ, zero, suc, _+_, _-_, _≤_, _<_}
+use native.Mathlib.Omega.{arith}
+use borrow.Author.Tests.{lt-ltb, le-ltb, ltb-true, eq-eqb, ne-eqb, eqb-true}
+use lib.Dec.{ltb, leb, eqb, lit<, lit≤}
+use lib.ListN.{length, getD, take, drop, length-drop, List·getD-eq-default}
+use lib.Seq.{sets, take-length}
+use Rattle.octets.specs.Choice.{if_then_else_}
+use Rattle.octets.proofs.Tests.{both}
+use Rattle.pages.specs.Numbers.{numberAt}
+use Rattle.replies.specs.declared.Reply.{Reply}
+use Rattle.replies.specs.Answers.{Answer, cut, Replied}
+use Rattle.card.specs.Items.{Item, reads, writes, excursion, tick, command}
+use Rattle.card.specs.Words.{stepWords, Stepped, Answered}
+use Rattle.card.proofs.Plain.{Plain}
+use Rattle.tape.specs.Text.{itemLine, Put}
+use Rattle.tape.specs.Tape.{bodySizes, bodySize, attributesKind, attributesSize, answerSize, commandSize, mediaItem, itemBy, isItem, itemIn, Played, nextBody, nextSet, nextItem}
+use Rattle.tape.specs.declared.Next.{Next}
+use Rattle.tape.specs.declared.Next.the-variants.{Over, Bad}
+
+-- ---- bodies
+
+pub size-none : (kind : ℕ) → 7 ≤ kind → bodySize kind ≡ 0
+size-none kind h = List·getD-eq-default bodySizes 0 h
+
+pub size-command : (kind : ℕ) → kind < 3 → 0 < bodySize kind → commandSize ≤ bodySize kind
+size-command zero h s = absurd (omega arith)
+size-command (suc zero) h s = lit≤ tt
+size-command (suc (suc zero)) h s = lit≤ tt
+size-command (suc (suc (suc k))) h s = absurd (omega arith)
+
+pub size-tick : (kind : ℕ) → kind ≡ 6 → bodySize kind ≡ 4
+size-tick kind e = rw e
+
+pub size-media : (kind : ℕ) → 3 ≤ kind → 0 < bodySize kind → (2 ≤ bodySize kind) × (kind < 5 → 4 ≤ bodySize kind)
+size-media zero h s = absurd (omega arith)
+size-media (suc zero) h s = absurd (omega arith)
+size-media (suc (suc zero)) h s = absurd (omega arith)
+size-media (suc (suc (suc zero))) h s = (lit≤ tt, λ l. lit≤ tt)
+size-media (suc (suc (suc (suc zero)))) h s = (lit≤ tt, λ l. lit≤ tt)
+size-media (suc (suc (suc (suc (suc zero))))) h s = (lit≤ tt, λ l. absurd (omega arith))
+size-media (suc (suc (suc (suc (suc (suc zero)))))) h s = (lit≤ tt, λ l. absurd (omega arith))
+size-media (suc (suc (suc (suc (suc (suc (suc k))))))) h s = absurd (omega (arith, size-none (suc (suc (suc (suc (suc (suc (suc k))))))) (omega arith)))
+
+pub known-item : (kind : ℕ) (body : List ℕ) → isItem kind body ≡ true → (0 < bodySize kind) × (length body ≡ bodySize kind)
+known-item kind body h =
+    let p = both (ltb 0 (bodySize kind)) _ h in
+    (ltb-true 0 (bodySize kind) (p .0), eqb-true (length body) (bodySize kind) (p .1))
+
+-- ---- lines
+
+pub played :
+    (ws : List ℕ) (i : Item) (line₀ words line : List ℕ) (n status dword : ℕ) (bytes : List ℕ)
+    → words ≡ stepWords ws i .table → status ≡ stepWords ws i .answer .status → dword ≡ stepWords ws i .answer .dword → bytes ≡ stepWords ws i .answer .bytes
+    → Put line₀ 0 (itemLine (record { status = status; dword = dword; bytes = bytes })) line n → Played ws (some i) line₀ n words line
+played ws i line₀ words line n status dword bytes t s d b p =
+    let a : itemLine (record { status = status; dword = dword; bytes = bytes }) ≡ itemLine (stepWords ws i .answer) = rw (s, d, b) in
+    record { table = t; text = p .bytes ∙ ap (sets line₀ 0) a; count = omega (arith, p .place, ap length a) }
+
+pub played-plain :
+    (ws : List ℕ) (i : Item) (line₀ words line : List ℕ) (n status : ℕ)
+    → Plain (stepWords ws i .answer) → Stepped ws i words status
+    → Put line₀ 0 (itemLine (record { status = status; dword = 0; bytes = [] })) line n → Played ws (some i) line₀ n words line
+played-plain ws i line₀ words line n status a s p =
+    played ws i line₀ words line n status 0 [] (s .table) (s .status) (sym (a .dword)) (sym (a .bytes)) p
+
+pub played-command :
+    (ws : List ℕ) (i : Item) (buffer handed : List ℕ) (r : Reply) (line₀ words line : List ℕ) (n : ℕ)
+    → Answered ws i buffer r words handed
+    → Put line₀ 0 (itemLine (record { status = r .status; dword = r .dword; bytes = cut handed (r .len) })) line n → Played ws (some i) line₀ n words line
+played-command ws i buffer handed r line₀ words line n a p =
+    let q = a .reply in
+    played ws i line₀ words line n (r .status) (r .dword) (cut handed (r .len)) (a .table) (q .status) (q .dword) (q .part) p
+
+pub played-as :
+    (ws : List ℕ) (i j : Item) (line₀ : List ℕ) (n : ℕ) (words line : List ℕ) → i ≡ j → Played ws (some i) line₀ n words line → Played ws (some j) line₀ n words line
+played-as ws i j line₀ n words line e p = subst (λ (x : Item). Played ws (some x) line₀ n words line) e p
+
+pub as-reads : (kind set count a b : ℕ) → kind ≡ 3 → a ≡ set → b ≡ count → reads a b ≡ mediaItem kind set count
+as-reads kind set count a b e p q = rw (e, p, q)
+
+pub as-writes : (kind set count a b : ℕ) → kind ≡ 4 → a ≡ set → b ≡ count → writes a b ≡ mediaItem kind set count
+as-writes kind set count a b e p q = rw (e, p, q)
+
+pub as-excursion : (kind set count a : ℕ) → (kind ≡ 3 → ⊥) → (kind ≡ 4 → ⊥) → a ≡ set → excursion a ≡ mediaItem kind set count
+as-excursion kind set count a n m p = rw (ne-eqb kind 3 n, ne-eqb kind 4 m, p)
+
+pub as-command :
+    (kind : ℕ) (body bytes given : List ℕ) → kind < 3 → bytes ≡ take commandSize body → given ≡ drop commandSize body → command bytes given answerSize ≡ itemBy kind body
+as-command kind body bytes given h p q = rw (lt-ltb kind 3 h, p, q)
+
+-- the part from a place to the end
+pub rest-all : (body : List ℕ) (n : ℕ) → take (length body - n) (drop n body) ≡ drop n body
+rest-all body n = rw (← length-drop n body) (take-length (drop n body))
+
+pub as-tick : (kind : ℕ) (body : List ℕ) (t : ℕ) → kind ≡ 6 → t ≡ numberAt body 0 4 → tick t ≡ itemBy kind body
+as-tick kind body t e p = rw (e, p)
+
+pub as-media : (kind : ℕ) (body : List ℕ) → 3 ≤ kind → (kind ≡ 6 → ⊥) → mediaItem kind (numberAt body 0 2) (numberAt body 2 2) ≡ itemBy kind body
+as-media kind body h n = rw (le-ltb kind 3 h, ne-eqb kind 6 n)
+
+pub played-item :
+    (ws : List ℕ) (kind : ℕ) (body line₀ : List ℕ) (n : ℕ) (words line : List ℕ) → isItem kind body ≡ true
+    → Played ws (some (itemBy kind body)) line₀ n words line → Played ws (itemIn kind body) line₀ n words line
+played-item ws kind body line₀ n words line e p = rw e p
+
+pub played-none : (ws : List ℕ) (kind : ℕ) (body line : List ℕ) → isItem kind body ≡ false → Played ws (itemIn kind body) line 0 ws line
+played-none ws kind body line e = rw e (record { table = refl; text = refl; count = refl })
+
+-- ---- what stands next
+
+pub none-set : (left : List ℕ) (last : Bool) (r : Next) → length left ≡ 0 → r ≡ nextItem [] last → r ≡ nextSet left last
+none-set [] last r e h = h
+none-set (k ∷ ks) last r e h = absurd (omega arith)
+
+pub none-item : (left : List ℕ) (last : Bool) (r : Next) → length left ≡ 0 → r ≡ nextItem [] last → r ≡ nextItem left last
+none-item [] last r e h = h
+none-item (k ∷ ks) last r e h = absurd (omega arith)
+
+pub whole-set :
+    (left : List ℕ) (last : Bool) (r : Next) → (length left ≡ 0 → ⊥) → getD left 0 0 ≡ attributesKind → r ≡ nextBody attributesSize (length left - 1) last → r ≡ nextSet left last
+whole-set [] last r n e h = absurd (n refl)
+whole-set (k ∷ ks) last r n e h = let d : suc (length ks) - 1 ≡ length ks = omega arith in rw e (rw d at h)
+
+pub other-set : (left : List ℕ) (last : Bool) → (length left ≡ 0 → ⊥) → (getD left 0 0 ≡ attributesKind → ⊥) → Over ≡ nextSet left last
+other-set [] last n e = absurd (n refl)
+other-set (k ∷ ks) last n e = rw (ne-eqb k attributesKind e)
+
+pub whole-item :
+    (left : List ℕ) (last : Bool) (size : ℕ) (r : Next) → (length left ≡ 0 → ⊥) → size ≡ bodySize (getD left 0 0) → 0 < size → r ≡ nextBody size (length left - 1) last → r ≡ nextItem left last
+whole-item [] last size r n e p h = absurd (n refl)
+whole-item (k ∷ ks) last size r n e p h =
+    let d : suc (length ks) - 1 ≡ length ks = omega arith in
+    let t : 0 < bodySize k = rw (← e) p in
+    rw (lt-ltb 0 (bodySize k) t) (rw (d, e) at h)
+
+pub bad-item : (left : List ℕ) (last : Bool) (size : ℕ) → (length left ≡ 0 → ⊥) → size ≡ bodySize (getD left 0 0) → size ≤ 0 → Bad ≡ nextItem left last
+bad-item [] last size n e p = absurd (n refl)
+bad-item (k ∷ ks) last size n e p = let t : bodySize k ≤ 0 = rw (← e) p in rw (le-ltb 0 (bodySize k) t)

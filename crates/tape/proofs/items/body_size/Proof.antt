@@ -1,0 +1,15 @@
+use mathlib.Core.Path.{sym}
+use native.Mathlib.Omega.{arith}
+use borrow.Author.Needs.{needs}
+use Rattle.tape.proofs.Playing.{size-none}
+use Rattle.tape.proofs.items.body_size.Statement.{statement}
+use Rattle.tape.proofs.items.body_size.Tie as tie
+
+pub body-size-spec : {M : Type 1} → statement M
+body-size-spec =
+    tie.close
+    (tie.spec
+    (λ c. search needs)
+    (λ c. search needs)
+    (λ c. search needs)
+    (λ c. sym (size-none (c .before .args .kind) (omega arith))))

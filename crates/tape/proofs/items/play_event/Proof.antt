@@ -1,0 +1,15 @@
+use borrow.Author.Needs.{needs}
+use Rattle.card.proofs.Plain.{plain}
+use Rattle.tape.proofs.Playing.{played-plain}
+use Rattle.tape.proofs.items.play_event.Statement.{statement}
+use Rattle.tape.proofs.items.play_event.Tie as tie
+
+pub play-event-spec : {M : Type 1} → statement M
+play-event-spec =
+    tie.close
+    (tie.spec
+    (λ c κs. search needs)
+    (λ c. search needs)
+    (λ c κs. search needs)
+    (λ c. search needs)
+    (λ c. let s = c .before .before .before .before .before .before .before .before in played-plain _ _ _ _ _ _ _ (plain _ (s .args .set) (s .args .m)) (c .before .before .before .before .before .event .ensures) (c .item-line .ensures)))

@@ -1,0 +1,85 @@
+-- 01, "Replay file and its printout": the file. "One byte of kind, then a body".
+use mathlib.Core.Path.{_≡_}
+use mathlib.Core.Bool.{Bool, _&&_}
+use mathlib.Core.List.{List, [], _∷_}
+use mathlib.Core.Option.{Option, none, some}
+use Prim.Native.Nat.{ℕ}
+use lib.Dec.{eqb, ltb, leb}
+use lib.ListN.{length, getD, take, drop}
+use lib.Seq.{sets}
+use Rattle.octets.specs.Choice.{if_then_else_}
+use Rattle.pages.specs.Numbers.{numberAt}
+use Rattle.card.specs.Items.{Item, reads, writes, excursion, tick, command}
+use Rattle.card.specs.Words.{stepWords}
+use Rattle.tape.specs.Text.{itemLine}
+use Rattle.tape.specs.declared.Next.{Next}
+use Rattle.tape.specs.declared.Next.the-variants.{Whole, Short, Bad, Over}
+
+-- how long an item's body is, by its kind; 0 where the kind is none of an item's:
+-- "01h command, 64 bytes; 02h command with data, 576; 03h reads and 04h writes, set and count, 4; 05h excursion, 2; 06h tick, 4"
+abbrev pub bodySizes : List ℕ
+bodySizes = 0 ∷ 64 ∷ 576 ∷ 4 ∷ 4 ∷ 2 ∷ 4 ∷ []
+
+abbrev pub bodySize : ℕ → ℕ
+bodySize kind = getD bodySizes kind 0
+
+-- "07h set attributes in the order above, 84"
+abbrev pub attributesKind : ℕ
+attributesKind = 7
+
+abbrev pub attributesSize : ℕ
+attributesSize = 84
+
+-- "The answer buffer has 4,096 bytes."
+abbrev pub answerSize : ℕ
+answerSize = 4096
+
+-- a command's own bytes; what follows them is its data
+abbrev pub commandSize : ℕ
+commandSize = 64
+
+abbrev pub mediaItem : ℕ → ℕ → ℕ → Item
+mediaItem kind set count = if eqb kind 3 then reads set count else if eqb kind 4 then writes set count else excursion set
+
+-- the item of a kind and a body that is as long as it should be
+abbrev pub itemBy : ℕ → List ℕ → Item
+itemBy kind body =
+    if ltb kind 3 then command (take commandSize body) (drop commandSize body) answerSize
+    else if eqb kind 6 then tick (numberAt body 0 4)
+    else mediaItem kind (numberAt body 0 2) (numberAt body 2 2)
+
+abbrev pub isItem : ℕ → List ℕ → Bool
+isItem kind body = ltb 0 (bodySize kind) && eqb (length body) (bodySize kind)
+
+abbrev pub itemIn : ℕ → List ℕ → Option Item
+itemIn kind body = if isItem kind body then some (itemBy kind body) else none
+
+-- what an item leaves of the words, and the line that it gets; nothing where it is no item
+abbrev pub wordsAfter : List ℕ → Option Item → List ℕ
+wordsAfter ws none = ws
+wordsAfter ws (some i) = stepWords ws i .table
+
+abbrev pub lineFor : List ℕ → Option Item → List ℕ
+lineFor ws none = []
+lineFor ws (some i) = itemLine (stepWords ws i .answer)
+
+pub record Played (ws : List ℕ) (i : Option Item) (line₀ : List ℕ) (n : ℕ) (words line : List ℕ) : Type 0 where
+  pub table : words ≡ wordsAfter ws i
+  pub text : line ≡ sets line₀ 0 (lineFor ws i)
+  pub count : n ≡ length (lineFor ws i)
+
+-- ---- what comes next, of the bytes that were read and not yet used; `last` says that the file has no more
+
+-- a kind with a body of so many bytes: whole, cut, or not read yet
+abbrev pub nextBody : ℕ → ℕ → Bool → Next
+nextBody size have last = if leb size have then Whole else if last then Bad else Short
+
+-- "Kinds 07h come first and aren't counted as items."
+abbrev pub nextSet : List ℕ → Bool → Next
+nextSet [] last = if last then Over else Short
+nextSet (kind ∷ rest) last = if eqb kind attributesKind then nextBody attributesSize (length rest) last else Over
+
+-- "Unknown kind, a late 07h or a cut body"
+abbrev pub nextItem : List ℕ → Bool → Next
+nextItem [] last = if last then Over else Short
+nextItem (kind ∷ rest) last = if ltb 0 (bodySize kind) then nextBody (bodySize kind) (length rest) last else Bad

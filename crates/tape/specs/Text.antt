@@ -1,0 +1,72 @@
+-- 01, "Replay file and its printout": the lines, as the bytes of their text.
+use mathlib.Core.Path.{_≡_}
+use mathlib.Core.List.{List, [], _∷_, _++_}
+use Prim.Native.Nat.{ℕ, zero, suc, _+_, _/_, _%_}
+use lib.Dec.{ltb}
+use lib.ListN.{length}
+use lib.Seq.{sets}
+use Rattle.octets.specs.Choice.{if_then_else_}
+use Rattle.replies.specs.Answers.{Answer}
+
+abbrev pub space : ℕ
+space = 32
+
+abbrev pub newline : ℕ
+newline = 10
+
+-- ---- numbers
+
+-- a digit below 16, in upper case: '0' is 48, 'A' is 65
+abbrev pub digitOf : ℕ → ℕ
+digitOf d = if ltb d 10 then 48 + d else 55 + d
+
+-- the last digits of a number, as many as `width`, the highest first
+abbrev pub digitsOf : ℕ → ℕ → ℕ → List ℕ
+digitsOf base zero v = []
+digitsOf base (suc width) v = digitsOf base width (v / base) ++ digitOf (v % base) ∷ []
+
+abbrev pub hexOf : ℕ → ℕ → List ℕ
+hexOf width v = digitsOf 16 width v
+
+-- "N is decimal": as many digits as it takes, here of a number below 10 ^ (most + 1)
+abbrev pub placesBelow : ℕ → ℕ → ℕ
+placesBelow zero n = 1
+placesBelow (suc most) n = if ltb n 10 then 1 else suc (placesBelow most (n / 10))
+
+-- a 64-bit number has at most 20
+unfoldable pub places : ℕ → ℕ
+places n = placesBelow 19 n
+
+abbrev pub decimalOf : ℕ → List ℕ
+decimalOf n = digitsOf 10 (places n) n
+
+-- data, two digits a byte
+abbrev pub dataHex : List ℕ → List ℕ
+dataHex [] = []
+dataHex (b ∷ bs) = hexOf 2 b ++ dataHex bs
+
+-- ---- the lines
+
+-- "sets N SSSS"
+abbrev pub setsLine : ℕ → ℕ → List ℕ
+setsLine n status = (115 ∷ 101 ∷ 116 ∷ 115 ∷ space ∷ []) ++ decimalOf n ++ (space ∷ []) ++ hexOf 4 status ++ newline ∷ []
+
+-- "end N", "bad N"
+abbrev pub endLine : ℕ → List ℕ
+endLine n = (101 ∷ 110 ∷ 100 ∷ space ∷ []) ++ decimalOf n ++ newline ∷ []
+
+abbrev pub badLine : ℕ → List ℕ
+badLine n = (98 ∷ 97 ∷ 100 ∷ space ∷ []) ++ decimalOf n ++ newline ∷ []
+
+-- "a line per item of status, dword 0 and, if given, data, all upper-case hex"
+abbrev pub dataText : List ℕ → List ℕ
+dataText [] = []
+dataText (b ∷ bs) = (space ∷ []) ++ dataHex (b ∷ bs)
+
+abbrev pub itemLine : Answer → List ℕ
+itemLine a = hexOf 4 (a .status) ++ (space ∷ []) ++ hexOf 8 (a .dword) ++ dataText (a .bytes) ++ newline ∷ []
+
+-- text put into bytes at a place: the bytes afterwards, and the place after it
+pub record Put (before : List ℕ) (at : ℕ) (text after : List ℕ) (next : ℕ) : Type 0 where
+  pub bytes : after ≡ sets before at text
+  pub place : next ≡ at + length text
