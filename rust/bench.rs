@@ -1,0 +1,228 @@
+//! Times each function of libcard_c.a against the baseline, alternating in one run, and prints a Markdown table.
+//!
+//! Each call gets a table of its own in the state that the case is about, since many calls change it; the tables are renewed
+//! outside the timed part.
+
+mod baseline;
+mod card_c;
+
+use model::commands::{CONFIGURATION, GET_FEATURES, GET_LOG_PAGE, IDENTIFY, LIST_PAGE, SET_FEATURES, SET_LIST, SET_PAGE, WINDOW};
+use model::layout::table_bytes;
+use model::set::DAY;
+use model::status;
+use std::ptr;
+use std::time::Instant;
+use trials::entries::{Entries, MODEL};
+
+const BATCH: usize = 32;
+const BATCHES: usize = 200;
+const ROUNDS: usize = 21;
+const RECOVERY: u32 = 20;
+
+/// The state of a card before the timed call.
+#[derive(Clone, Copy)]
+enum State {
+    /// All sets in D, and charges that drive none of them out.
+    InD,
+    /// All sets in N, with their time spent.
+    Recovered,
+    /// All sets in N, with events and listed.
+    Listed,
+}
+
+/// What is timed.
+#[derive(Clone, Copy)]
+enum Timed {
+    SetUp,
+    Command { opcode: u8, dwords: [u32; 4] },
+    Reads,
+    Writes,
+    Excursion,
+    Tick,
+}
+
+struct Case {
+    name: &'static str,
+    state: State,
+    timed: Timed,
+}
+
+/// Feature commands name the set in CDW11 15:0, page 0Ah in 31:16; `MIDDLE` there stands for the set in the middle.
+const MIDDLE: u32 = 0x0001_0001;
+
+const fn command(name: &'static str, state: State, opcode: u8, dwords: [u32; 4]) -> Case {
+    Case { name, state, timed: Timed::Command { opcode, dwords } }
+}
+
+const CASES: [Case; 12] = [
+    Case { name: "set-up", state: State::InD, timed: Timed::SetUp },
+    command("Set 13h, enable", State::InD, SET_FEATURES, [CONFIGURATION as u32, MIDDLE, 1, 0]),
+    command("Get 13h", State::InD, GET_FEATURES, [CONFIGURATION as u32, MIDDLE, 0, 0]),
+    command("Set 14h, select D", State::Recovered, SET_FEATURES, [WINDOW as u32, MIDDLE, 1, 0]),
+    command("Get 14h", State::InD, GET_FEATURES, [WINDOW as u32, MIDDLE, 0, 0]),
+    command("page 0Ah, 512 bytes, clearing", State::Listed, GET_LOG_PAGE, [SET_PAGE as u32 | 127 << 16, MIDDLE & !0xFFFF, 0, 0]),
+    command("page 0Bh, 72 bytes, all listed", State::Listed, GET_LOG_PAGE, [LIST_PAGE as u32 | 17 << 16, 0, 0, 0]),
+    command("Identify", State::InD, IDENTIFY, [SET_LIST as u32, 0, 0, 0]),
+    Case { name: "reads", state: State::InD, timed: Timed::Reads },
+    Case { name: "writes", state: State::InD, timed: Timed::Writes },
+    Case { name: "excursion", state: State::InD, timed: Timed::Excursion },
+    Case { name: "tick", state: State::InD, timed: Timed::Tick },
+];
+
+fn main() {
+    println!("| call | sets | card_c, ns | baseline, ns | ratio |");
+    println!("|---|---:|---:|---:|---:|");
+    for case in &CASES {
+        for sets in [1, 8, 31] {
+            let (ours, baseline) = compare(case, sets);
+            println!("| {} | {} | {:.0} | {:.0} | {:.2} |", case.name, sets, ours, baseline, ours / baseline);
+        }
+    }
+}
+
+/// The medians of the rounds, in ns for each call.
+fn compare(case: &Case, sets: u16) -> (f64, f64) {
+    let mut bench = Bench::new(case, sets);
+    let (ours, baseline) = (opaque(&card_c::ENTRIES), opaque(&baseline::ENTRIES));
+    let mut rounds: [Vec<f64>; 2] = [Vec::new(), Vec::new()];
+    for _ in 0..ROUNDS {
+        rounds[0].push(bench.round(&ours));
+        rounds[1].push(bench.round(&baseline));
+    }
+    (median(&mut rounds[0]), median(&mut rounds[1]))
+}
+
+fn median(times: &mut [f64]) -> f64 {
+    times.sort_by(f64::total_cmp);
+    times[times.len() / 2]
+}
+
+/// The same functions, but the compiler cannot know which: so it cannot work them out ahead.
+fn opaque(entries: &Entries) -> Entries {
+    // A reference may always be read through.
+    unsafe { ptr::read_volatile(entries) }
+}
+
+struct Bench {
+    timed: Timed,
+    set: u16,
+    table: Vec<u8>,
+    tables: Vec<u8>,
+    bodies: Vec<u8>,
+    command: [u8; 64],
+    data: [u8; 512],
+    answer: [u8; 4096],
+    reply: [u8; 16],
+}
+
+impl Bench {
+    fn new(case: &Case, sets: u16) -> Bench {
+        let set = sets / 2 + 1;
+        let bodies: Vec<u8> = (1..=sets).flat_map(body).collect();
+        let command = match case.timed {
+            Timed::Command { opcode, dwords } => command_of(opcode, dwords, set),
+            _ => [0; 64],
+        };
+        let table = prepared(&bodies, sets, case.state);
+        Bench {
+            timed: case.timed,
+            set,
+            tables: table.repeat(BATCH),
+            table,
+            bodies,
+            command,
+            data: configuration(),
+            answer: [0; 4096],
+            reply: [0; 16],
+        }
+    }
+
+    /// So many batches; ns for each call.
+    fn round(&mut self, entries: &Entries) -> f64 {
+        let mut nanoseconds = 0;
+        for _ in 0..BATCHES {
+            self.tables.chunks_exact_mut(self.table.len()).for_each(|table| table.copy_from_slice(&self.table));
+            let start = Instant::now();
+            let statuses = self.batch(entries);
+            nanoseconds += start.elapsed().as_nanos();
+            assert_eq!(statuses, status::SUCCESS, "a timed call is refused");
+        }
+        nanoseconds as f64 / (BATCH * BATCHES) as f64
+    }
+
+    fn batch(&mut self, entries: &Entries) -> u16 {
+        let Bench { bodies, command, data, answer, reply, set, .. } = self;
+        let tables = self.tables.chunks_exact_mut(self.table.len());
+        match self.timed {
+            Timed::SetUp => all(tables, |table| (entries.set_up)(table, bodies)),
+            Timed::Command { .. } => all(tables, |table| (entries.command)(table, command, data, answer, reply)),
+            Timed::Reads => all(tables, |table| (entries.reads)(table, *set, 1)),
+            Timed::Writes => all(tables, |table| (entries.writes)(table, *set, 1)),
+            Timed::Excursion => all(tables, |table| (entries.excursion)(table, *set)),
+            Timed::Tick => all(tables, |table| (entries.tick)(table, 1)),
+        }
+    }
+}
+
+fn all<'a>(tables: impl Iterator<Item = &'a mut [u8]>, call: impl FnMut(&'a mut [u8]) -> u16) -> u16 {
+    tables.map(call).fold(0, |statuses, number| statuses | number)
+}
+
+fn body(set: u16) -> Vec<u8> {
+    let mut body = Vec::new();
+    body.extend(set.to_le_bytes());
+    body.extend(1u16.to_le_bytes());
+    body.extend(100u32.to_le_bytes());
+    body.extend(4096u32.to_le_bytes());
+    body.extend((1u128 << 70).to_le_bytes());
+    body.extend((1u128 << 69).to_le_bytes());
+    for number in [u64::from(u32::MAX), u64::from(u32::MAX), DAY, RECOVERY.into(), 5] {
+        body.extend(number.to_le_bytes());
+    }
+    body
+}
+
+fn configuration() -> [u8; 512] {
+    let mut data = [0; 512];
+    data[0..2].copy_from_slice(&0xC007u16.to_le_bytes());
+    for threshold in data[32..56].chunks_exact_mut(8) {
+        threshold.copy_from_slice(&1_000u64.to_le_bytes());
+    }
+    data
+}
+
+fn command_of(opcode: u8, dwords: [u32; 4], set: u16) -> [u8; 64] {
+    let mut command = [0; 64];
+    command[0] = opcode;
+    let named = [dwords[0], dwords[1] * u32::from(set), dwords[2], dwords[3]];
+    for (place, dword) in command[40..56].chunks_exact_mut(4).zip(named) {
+        place.copy_from_slice(&dword.to_le_bytes());
+    }
+    command
+}
+
+/// The table of a case, made by the model.
+fn prepared(bodies: &[u8], sets: u16, state: State) -> Vec<u8> {
+    let mut table = vec![0; table_bytes(sets.into())];
+    let mut statuses = (MODEL.set_up)(&mut table, bodies);
+    for set in 1..=sets {
+        statuses |= set_feature(&mut table, CONFIGURATION, set);
+    }
+    statuses |= (MODEL.tick)(&mut table, RECOVERY);
+    for set in 1..=sets {
+        if !matches!(state, State::Recovered) {
+            statuses |= set_feature(&mut table, WINDOW, set);
+        }
+        if matches!(state, State::Listed) {
+            statuses |= (MODEL.excursion)(&mut table, set);
+        }
+    }
+    assert_eq!(statuses, status::SUCCESS, "the case cannot be prepared");
+    table
+}
+
+/// Set Features with 1 in CDW12: enables the mode, or selects D.
+fn set_feature(table: &mut [u8], fid: u8, set: u16) -> u16 {
+    let command = command_of(SET_FEATURES, [fid.into(), MIDDLE, 1, 0], set);
+    (MODEL.command)(table, &command, &configuration(), &mut [], &mut [])
+}

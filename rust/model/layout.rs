@@ -1,0 +1,143 @@
+//! The table's words (docs/LAYOUT.md) and the sets they stand for, and the bodies of set-up.
+
+use crate::set::{Attributes, Configuration, Set, Window};
+
+/// "Up to 31 sets."
+pub const MAX_SETS: usize = 31;
+pub const WORD_BYTES: usize = 8;
+pub const ROW_WORDS: usize = 24;
+const HEADER_BYTES: usize = WORD_BYTES;
+const ROW_BYTES: usize = WORD_BYTES * ROW_WORDS;
+/// "07h set attributes in the order above, 84".
+pub const BODY_BYTES: usize = 84;
+
+/// How many bytes the table of so many sets takes.
+pub const fn table_bytes(sets: usize) -> usize {
+    HEADER_BYTES + ROW_BYTES * sets
+}
+
+/// The sets of a legal table: "1 to 31 sets, identifiers strictly rising, statics in range; [...]". None where the table is not
+/// legal or its slice too short.
+pub fn read_table(table: &[u8]) -> Option<Vec<Set>> {
+    let sets = word(table.get(..HEADER_BYTES)?);
+    if !(1..=MAX_SETS as u64).contains(&sets) {
+        return None;
+    }
+    let rows = table.get(HEADER_BYTES..table_bytes(sets as usize))?;
+    let read: Vec<Set> = rows.chunks_exact(ROW_BYTES).map(read_row).collect::<Option<_>>()?;
+    Some(read).filter(|sets| is_rising(sets))
+}
+
+/// Writes header and rows; "words past it are neither read nor written".
+pub fn write_table(table: &mut [u8], sets: &[Set]) {
+    let words = std::iter::once(sets.len() as u64).chain(sets.iter().flat_map(row_of));
+    for (place, word) in table.chunks_exact_mut(WORD_BYTES).zip(words) {
+        place.copy_from_slice(&word.to_le_bytes());
+    }
+}
+
+/// "identifiers strictly rising".
+pub fn is_rising(sets: &[Set]) -> bool {
+    sets.windows(2).all(|two| two[0].attributes.identifier < two[1].attributes.identifier)
+}
+
+/// The attributes of one body, whether in range or not: "identifier; endurance group; random read typical (4 bytes); optimal
+/// write size (4); total and unallocated capacity (16 each [...]). These last five take 8 bytes each."
+pub fn read_body(body: &[u8; BODY_BYTES]) -> Attributes {
+    let number = |from: usize, to: usize| little_endian(&body[from..to]);
+    Attributes {
+        identifier: number(0, 2) as u16,
+        group: number(2, 4) as u16,
+        random_read_typical: number(4, 8) as u32,
+        optimal_write_size: number(8, 12) as u32,
+        total: number(12, 28),
+        unallocated: number(28, 44),
+        reads_typical: number(44, 52) as u64,
+        writes_typical: number(52, 60) as u64,
+        time_maximum: number(60, 68) as u64,
+        minimum_high: number(68, 76) as u64,
+        minimum_low: number(76, 84) as u64,
+    }
+}
+
+/// "All numbers little-endian." Of at most 16 bytes.
+pub fn little_endian(bytes: &[u8]) -> u128 {
+    bytes.iter().rev().fold(0, |number, &byte| number << 8 | u128::from(byte))
+}
+
+fn word(bytes: &[u8]) -> u64 {
+    u64::from_le_bytes(bytes.try_into().expect("a word is cut to its length"))
+}
+
+/// The set of a row, if the row is legal. A word that is too large for its field has some of its "unused bits" set.
+fn read_row(bytes: &[u8]) -> Option<Set> {
+    let row = |place: usize| word(&bytes[WORD_BYTES * place..WORD_BYTES * (place + 1)]);
+    let set = Set {
+        attributes: Attributes {
+            identifier: row(0).try_into().ok()?,
+            group: row(1).try_into().ok()?,
+            random_read_typical: row(2).try_into().ok()?,
+            optimal_write_size: row(3).try_into().ok()?,
+            total: capacity(row(4), row(5)),
+            unallocated: capacity(row(6), row(7)),
+            reads_typical: row(8),
+            writes_typical: row(9),
+            time_maximum: row(10),
+            minimum_high: row(11),
+            minimum_low: row(12),
+        },
+        window: window(row(13))?,
+        configuration: Configuration { enev: row(14).try_into().ok()?, thresholds: [row(15), row(16), row(17)] },
+        charges: [row(18), row(19), row(20)],
+        n_time: row(21),
+        events: row(22).try_into().ok()?,
+        listed: mark(row(23))?,
+    };
+    Some(set).filter(Set::is_legal)
+}
+
+fn row_of(set: &Set) -> [u64; ROW_WORDS] {
+    let Set { attributes, window, configuration, charges, n_time, events, listed } = set;
+    [
+        attributes.identifier.into(),
+        attributes.group.into(),
+        attributes.random_read_typical.into(),
+        attributes.optimal_write_size.into(),
+        attributes.total as u64,
+        (attributes.total >> 64) as u64,
+        attributes.unallocated as u64,
+        (attributes.unallocated >> 64) as u64,
+        attributes.reads_typical,
+        attributes.writes_typical,
+        attributes.time_maximum,
+        attributes.minimum_high,
+        attributes.minimum_low,
+        *window as u64,
+        configuration.enev.into(),
+        configuration.thresholds[0],
+        configuration.thresholds[1],
+        configuration.thresholds[2],
+        charges[0],
+        charges[1],
+        charges[2],
+        *n_time,
+        (*events).into(),
+        (*listed).into(),
+    ]
+}
+
+fn capacity(lower: u64, upper: u64) -> u128 {
+    u128::from(upper) << 64 | u128::from(lower)
+}
+
+fn window(word: u64) -> Option<Window> {
+    [Window::Off, Window::D, Window::N].iter().copied().find(|&window| window as u64 == word)
+}
+
+fn mark(word: u64) -> Option<bool> {
+    match word {
+        0 => Some(false),
+        1 => Some(true),
+        _ => None,
+    }
+}

@@ -1,0 +1,271 @@
+//! 01's whole run and its edges, on the set of the run.
+
+use crate::commands::{CONFIGURATION, GET_FEATURES, GET_LOG_PAGE, IDENTIFY, LIST_PAGE, SET_FEATURES, SET_LIST, SET_PAGE, WINDOW};
+use crate::layout::{little_endian, read_table, table_bytes, write_table};
+use crate::set::{Set, Window};
+use crate::{card, status, tape};
+
+/// "Whole run: set 7, typicals 100 and 50, maximum 1000, high 20, low 5."
+fn body() -> Vec<u8> {
+    let mut body = Vec::new();
+    body.extend(7u16.to_le_bytes());
+    body.extend(1u16.to_le_bytes());
+    body.extend(2u32.to_le_bytes());
+    body.extend(3u32.to_le_bytes());
+    body.extend(5u128.to_le_bytes());
+    body.extend(4u128.to_le_bytes());
+    for number in [100u64, 50, 1000, 20, 5] {
+        body.extend(number.to_le_bytes());
+    }
+    body
+}
+
+fn command(opcode: u8, dwords: [u32; 4]) -> Vec<u8> {
+    let mut command = vec![0; 40];
+    command[0] = opcode;
+    command.extend(dwords.iter().flat_map(|dword| dword.to_le_bytes()));
+    command.resize(64, 0);
+    command
+}
+
+fn configuration(enev: u16, thresholds: [u64; 3]) -> Vec<u8> {
+    let mut data = vec![0; 32];
+    data[..2].copy_from_slice(&enev.to_le_bytes());
+    data.extend(thresholds.iter().flat_map(|threshold| threshold.to_le_bytes()));
+    data.resize(512, 0);
+    data
+}
+
+fn enable() -> Vec<u8> {
+    command(SET_FEATURES, [CONFIGURATION.into(), 7, 1, 0])
+}
+
+fn select_d() -> Vec<u8> {
+    command(SET_FEATURES, [WINDOW.into(), 7, 1, 0])
+}
+
+/// Page 0Ah or 0Bh, so many dwords from an offset.
+fn log(page: u8, retain: bool, dwords: u32, offset: u32) -> Vec<u8> {
+    command(GET_LOG_PAGE, [(dwords - 1) << 16 | u32::from(retain) << 15 | u32::from(page), 7 << 16, offset, 0])
+}
+
+/// A card with the set of the run.
+struct Card(Vec<u8>);
+
+impl Card {
+    fn new() -> Card {
+        let mut table = vec![0xA5; table_bytes(1)];
+        assert_eq!(card::set_up(&mut table, &body()), status::SUCCESS);
+        Card(table)
+    }
+
+    /// In D, after the recovery time, with the run's configuration.
+    fn in_d() -> Card {
+        Card::in_d_with(0x4001, [10, 0, 0])
+    }
+
+    fn in_d_with(enev: u16, thresholds: [u64; 3]) -> Card {
+        let mut card = Card::new();
+        card.enable(enev, thresholds);
+        card.tick(20);
+        assert_eq!(card.give(&select_d(), &[]).0, status::SUCCESS);
+        assert_eq!(card.set().window, Window::D);
+        card
+    }
+
+    fn enable(&mut self, enev: u16, thresholds: [u64; 3]) {
+        assert_eq!(self.give(&enable(), &configuration(enev, thresholds)), (status::SUCCESS, 0, vec![]));
+    }
+
+    /// Status, dword 0 and data.
+    fn give(&mut self, command: &[u8], data: &[u8]) -> (u16, u32, Vec<u8>) {
+        let mut answer = vec![0xEE; 4096];
+        let mut reply = [0xEE; 16];
+        let number = card::command(&mut self.0, command, data, &mut answer, &mut reply);
+        let length = little_endian(&reply[4..8]) as usize;
+        assert!(answer[length..].iter().all(|&byte| byte == 0xEE));
+        (number, little_endian(&reply[0..4]) as u32, answer[..length].to_vec())
+    }
+
+    fn reads(&mut self, count: u16) {
+        assert_eq!(card::reads(&mut self.0, 7, count), status::SUCCESS);
+    }
+
+    fn tick(&mut self, milliseconds: u32) {
+        assert_eq!(card::tick(&mut self.0, milliseconds), status::SUCCESS);
+    }
+
+    fn set(&self) -> Set {
+        read_table(&self.0).expect("the table is legal")[0].clone()
+    }
+
+    fn listed(&mut self) -> u128 {
+        little_endian(&self.give(&log(LIST_PAGE, false, 2, 0), &[]).2)
+    }
+}
+
+fn printout(file: &[u8]) -> String {
+    let mut output = Vec::new();
+    tape::replay(file, &mut output).expect("memory can be read and written");
+    String::from_utf8(output).expect("a printout is plain text")
+}
+
+fn set_up_file() -> Vec<u8> {
+    let mut file = vec![tape::SET_ATTRIBUTES];
+    file.extend(body());
+    file
+}
+
+fn whole_run_file() -> Vec<u8> {
+    let mut file = set_up_file();
+    let mut add = |kind: u8, parts: &[&[u8]]| {
+        file.push(kind);
+        parts.iter().for_each(|part| file.extend_from_slice(part));
+    };
+    add(tape::COMMAND_WITH_DATA, &[&enable(), &configuration(0x4001, [10, 0, 0])]);
+    add(tape::TICK, &[&20u32.to_le_bytes()]);
+    add(tape::COMMAND, &[&select_d()]);
+    add(tape::READS, &[&7u16.to_le_bytes(), &91u16.to_le_bytes()]);
+    add(tape::COMMAND, &[&log(LIST_PAGE, false, 3, 0)]);
+    add(tape::READS, &[&7u16.to_le_bytes(), &10u16.to_le_bytes()]);
+    add(tape::COMMAND, &[&command(GET_FEATURES, [WINDOW.into(), 7, 0, 0])]);
+    add(tape::COMMAND, &[&select_d()]);
+    file
+}
+
+#[test]
+fn whole_run() {
+    let expected = "sets 1 0000\n0000 00000000\n0000 00000000\n0000 00000000\n0000 00000000\n\
+                    0000 00000000 010000000000000007000000\n0000 00000000\n0000 00000002\n07C1 00000000\nend 8\n";
+    assert_eq!(printout(&whole_run_file()), expected);
+}
+
+#[test]
+fn files_that_end_early() {
+    assert_eq!(printout(&[]), "sets 0 07C4\n");
+    assert_eq!(printout(&[0xFF]), "sets 0 07C4\n");
+    assert_eq!(printout(&set_up_file()), "sets 1 0000\nend 0\n");
+    assert_eq!(printout(&set_up_file()[..84]), "bad 0\n");
+    let with = |rest: &[u8]| printout(&[&set_up_file(), rest].concat());
+    assert_eq!(with(&set_up_file()), "sets 2 07C4\n");
+    assert_eq!(with(&set_up_file()[..84]), "bad 0\n");
+    assert_eq!(with(&[6, 1, 0, 0, 0, 7, 0]), "sets 1 0000\n0000 00000000\nbad 1\n");
+    assert_eq!(with(&[6, 1, 0, 0, 0, 8]), "sets 1 0000\n0000 00000000\nbad 1\n");
+    assert_eq!(with(&[5, 8, 0, 6, 1, 0, 0]), "sets 1 0000\n07C0 00000000\nbad 1\n");
+}
+
+#[test]
+fn edge_1_ninety_reads_do_not_warn() {
+    let mut card = Card::in_d();
+    card.reads(90);
+    assert_eq!((card.set().events, card.set().listed, card.set().window), (0, false, Window::D));
+}
+
+#[test]
+fn edge_2_ninety_one_reads_warn() {
+    let mut card = Card::in_d();
+    card.reads(91);
+    assert_eq!((card.set().events, card.set().listed, card.set().window), (0x0001, true, Window::D));
+}
+
+#[test]
+fn edge_3_a_hundred_reads_stay_in_d() {
+    let mut card = Card::in_d();
+    card.reads(100);
+    assert_eq!((card.set().events, card.set().window), (0x0001, Window::D));
+}
+
+#[test]
+fn edge_4_a_hundred_and_one_reads_at_once_leave_d() {
+    let mut card = Card::in_d();
+    card.reads(101);
+    assert_eq!((card.set().events, card.set().listed, card.set().window), (0x4001, true, Window::N));
+}
+
+#[test]
+fn edges_5_to_7_ticks_in_d() {
+    for (milliseconds, window, n_time) in [(999, Window::D, 0), (1000, Window::N, 0), (1007, Window::N, 7)] {
+        let mut card = Card::in_d();
+        card.tick(milliseconds);
+        assert_eq!((card.set().window, card.set().n_time), (window, n_time));
+    }
+}
+
+#[test]
+fn edges_8_and_9_select_d_when_time_is_spent() {
+    for (milliseconds, number, window) in [(19, status::TOO_EARLY, Window::N), (20, status::SUCCESS, Window::D)] {
+        let mut card = Card::new();
+        card.enable(0x4001, [10, 0, 0]);
+        card.tick(milliseconds);
+        assert_eq!(card.give(&select_d(), &[]), (number, 0, vec![]));
+        assert_eq!(card.set().window, window);
+    }
+}
+
+#[test]
+fn edge_10_later_enabling_does_not_list() {
+    let mut card = Card::in_d_with(0, [0; 3]);
+    assert_eq!(card::excursion(&mut card.0, 7), status::SUCCESS);
+    assert_eq!((card.set().events, card.set().listed, card.set().window), (0x8000, false, Window::N));
+    card.enable(0x8000, [0; 3]);
+    assert_eq!((card.set().events, card.set().listed, card.listed()), (0x8000, false, 0));
+}
+
+#[test]
+fn edge_11_the_end_of_the_page_is_zeros() {
+    let mut card = Card::in_d();
+    assert_eq!(card.give(&log(SET_PAGE, true, 2, 512), &[]), (status::SUCCESS, 0, vec![0; 8]));
+}
+
+#[test]
+fn edge_12_past_the_end_of_the_page_is_refused() {
+    let mut card = Card::in_d();
+    assert_eq!(card.give(&log(SET_PAGE, true, 2, 516), &[]), (status::INVALID_FIELD, 0, vec![]));
+}
+
+#[test]
+fn edge_13_threshold_zero_never_warns() {
+    let mut card = Card::in_d_with(0xC007, [0; 3]);
+    card.reads(100);
+    assert_eq!(card.set().events, 0);
+    card.reads(1);
+    assert_eq!(card.set().events, 0x4000);
+}
+
+#[test]
+fn edge_14_identify_from_eight_finds_none() {
+    let mut card = Card::new();
+    let from = |first: u32| command(IDENTIFY, [SET_LIST.into(), first, 0, 0]);
+    assert_eq!(card.give(&from(8), &[]), (status::SUCCESS, 0, vec![0; 4096]));
+    let entry = card.give(&from(7), &[]).2[128..256].to_vec();
+    assert_eq!(entry[..16], [7, 0, 1, 0, 0, 0, 0, 0, 2, 0, 0, 0, 3, 0, 0, 0]);
+    assert_eq!((little_endian(&entry[16..32]), little_endian(&entry[32..48])), (5, 4));
+}
+
+#[test]
+fn repeated_select_d_does_not_refill() {
+    let mut card = Card::in_d();
+    card.reads(60);
+    assert_eq!(card.give(&select_d(), &[]).0, status::SUCCESS);
+    card.reads(41);
+    assert_eq!(card.set().window, Window::N);
+}
+
+#[test]
+fn no_second_warning_after_a_clearing_read() {
+    let mut card = Card::in_d();
+    card.reads(91);
+    assert_eq!(card.give(&log(SET_PAGE, false, 128, 0), &[]).2[2..4], [1, 0]);
+    assert_eq!((card.set().events, card.set().listed), (0, false));
+    card.reads(1);
+    assert_eq!(card.set().events, 0);
+}
+
+#[test]
+fn legal_tables_are_kept_word_for_word() {
+    let mut card = Card::in_d();
+    card.reads(91);
+    let mut copy = vec![0; card.0.len()];
+    write_table(&mut copy, &read_table(&card.0).expect("the table is legal"));
+    assert_eq!(copy, card.0);
+}

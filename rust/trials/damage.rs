@@ -1,0 +1,219 @@
+//! Spoiled tables and bodies. Some of what comes out is still legal, as it should be: both sides of each bound are wanted.
+
+use crate::random::Random;
+use model::layout::{little_endian, BODY_BYTES, MAX_SETS, ROW_WORDS, WORD_BYTES};
+
+const ROW_BYTES: usize = WORD_BYTES * ROW_WORDS;
+
+/// The bounds of the fields, and their neighbours.
+const LIMITS: [u64; 22] = [
+    0,
+    1,
+    2,
+    3,
+    30,
+    31,
+    32,
+    0xFFFF,
+    0x1_0000,
+    0x1_0001,
+    0xFFFF_FFFF,
+    0x1_0000_0000,
+    0x1_0000_0001,
+    86_399_999,
+    86_400_000,
+    86_400_001,
+    0x4000,
+    0x8000,
+    0xC007,
+    0xC008,
+    0x8000_0000_0000_0000,
+    u64::MAX,
+];
+
+/// Spoils a legal table in some way.
+pub fn damage_table(random: &Random, table: &mut Vec<u8>) {
+    match random.below(20) {
+        0 => spoil_header(random, table),
+        1 => swap_rows(random, table),
+        2 => repeat_row(random, table),
+        3 => cut_words(random, table),
+        4 => cut_bytes(random, table),
+        5 => *table = random_table(random),
+        6 => spoil_byte(random, table),
+        7 => {
+            spoil_row_word(random, table);
+            spoil_row_word(random, table);
+        }
+        8 => add_row(random, table),
+        _ => spoil_row_word(random, table),
+    }
+}
+
+fn spoil_header(random: &Random, table: &mut [u8]) {
+    let sets = (table.len() / ROW_BYTES) as u64;
+    let number = random.pick(&[sets - 1, sets + 1, random.pick(&LIMITS), sets | 1 << random.below(64), random.uneven()]);
+    put_word(table, 0, number);
+}
+
+/// Adds the last row again, with a higher identifier: of 31 sets that is one too many, and else legal.
+fn add_row(random: &Random, table: &mut Vec<u8>) {
+    let last = table.len() - ROW_BYTES;
+    let sets = word(table, 0);
+    let identifier = word(&table[last..], 0) + random.between(0, 2);
+    table.extend_from_within(last..);
+    put_word(table, 1 + ROW_WORDS * sets as usize, identifier);
+    put_word(table, 0, sets + 1);
+}
+
+/// The largest legal value of a word of a row, or the word that bounds it.
+fn bound(row: &[u8], field: usize) -> u64 {
+    match field {
+        0 | 1 => 0xFFFF,
+        2 | 3 | 8 | 9 => 0xFFFF_FFFF,
+        // Unallocated by total; minimum low by high; charges and N time by their limits.
+        6 | 7 => word(row, field - 2),
+        12 => word(row, 11),
+        18..=21 => word(row, field - 10),
+        10 | 11 => 86_400_000,
+        13 => 2,
+        14 | 22 => 0xC007,
+        23 => 1,
+        _ => u64::MAX,
+    }
+}
+
+/// Puts another word into one place of one row.
+fn spoil_row_word(random: &Random, table: &mut [u8]) {
+    let start = WORD_BYTES + ROW_BYTES * random.place(table.len() / ROW_BYTES);
+    let row = &mut table[start..start + ROW_BYTES];
+    let field = random.place(ROW_WORDS);
+    let old = word(row, field);
+    let bound = bound(row, field);
+    let neighbour = word(row, random.place(ROW_WORDS));
+    let new = match random.below(10) {
+        0..=1 => random.pick(&LIMITS),
+        2..=3 => random.pick(&[0, bound, bound.wrapping_add(1)]),
+        4 => old ^ 1 << random.below(64),
+        5 => old.wrapping_add(1),
+        6 => old.wrapping_sub(1),
+        7 => random.uneven(),
+        _ => random.pick(&[neighbour, neighbour.wrapping_add(1), neighbour.wrapping_sub(1)]),
+    };
+    put_word(row, field, new);
+}
+
+fn swap_rows(random: &Random, table: &mut [u8]) {
+    let (first, second) = two_rows(random, table);
+    for byte in 0..ROW_BYTES {
+        table.swap(first + byte, second + byte);
+    }
+}
+
+fn repeat_row(random: &Random, table: &mut [u8]) {
+    let (first, second) = two_rows(random, table);
+    table.copy_within(first..first + ROW_BYTES, second);
+}
+
+fn two_rows(random: &Random, table: &[u8]) -> (usize, usize) {
+    let rows = table.len() / ROW_BYTES;
+    let row = || WORD_BYTES + ROW_BYTES * random.place(rows);
+    (row(), row())
+}
+
+fn cut_words(random: &Random, table: &mut Vec<u8>) {
+    let words = random.place(table.len() / WORD_BYTES);
+    table.truncate(WORD_BYTES * words);
+}
+
+fn cut_bytes(random: &Random, table: &mut Vec<u8>) {
+    let length = match random.below(3) {
+        0 => random.place(12),
+        1 => table.len() - 1 - random.place(8),
+        _ => random.place(table.len()),
+    };
+    table.truncate(length);
+}
+
+fn spoil_byte(random: &Random, table: &mut [u8]) {
+    let place = random.place(table.len());
+    table[place] = random.word() as u8;
+}
+
+fn random_table(random: &Random) -> Vec<u8> {
+    let length = random.place(700);
+    let mut table = random.bytes(length);
+    if length >= WORD_BYTES && random.once_in(2) {
+        put_word(&mut table, 0, random.between(1, 3));
+    }
+    table
+}
+
+/// Where each attribute lies in a body, and how long it is.
+const ATTRIBUTES: [(usize, usize); 11] =
+    [(0, 2), (2, 2), (4, 4), (8, 4), (12, 16), (28, 16), (44, 8), (52, 8), (60, 8), (68, 8), (76, 8)];
+
+/// Spoils good bodies in some way.
+pub fn damage_bodies(random: &Random, bodies: &mut Vec<u8>) {
+    match random.below(10) {
+        0 => bodies.clear(),
+        1 => bodies.truncate(random.place(bodies.len())),
+        2 => bodies.extend(random.bytes(random.pick(&[1, 83, 84, 85]))),
+        3 => repeat_bodies(random, bodies),
+        4 => swap_bodies(random, bodies),
+        5 => *bodies = random.bytes(random.pick(&[1, 83, 84, 85, 168])),
+        _ => spoil_attribute(random, bodies),
+    }
+}
+
+/// Far or just too many bodies, or enough, in an order that does not rise.
+fn repeat_bodies(random: &Random, bodies: &mut Vec<u8>) {
+    let whole = bodies.clone();
+    let sets = random.pick(&[MAX_SETS, MAX_SETS + 1, 2 * MAX_SETS, 200]);
+    while bodies.len() < sets * BODY_BYTES {
+        bodies.extend_from_slice(&whole);
+    }
+    bodies.truncate(sets * BODY_BYTES);
+    if random.once_in(2) {
+        number_bodies(bodies);
+    }
+}
+
+/// Makes the identifiers rise, so that only the number of sets is wrong.
+fn number_bodies(bodies: &mut [u8]) {
+    for (number, body) in bodies.chunks_exact_mut(BODY_BYTES).enumerate() {
+        body[0..2].copy_from_slice(&(number as u16 + 1).to_le_bytes());
+    }
+}
+
+fn swap_bodies(random: &Random, bodies: &mut [u8]) {
+    let sets = bodies.len() / BODY_BYTES;
+    let (first, second) = (BODY_BYTES * random.place(sets), BODY_BYTES * random.place(sets));
+    for byte in 0..BODY_BYTES {
+        bodies.swap(first + byte, second + byte);
+    }
+}
+
+fn spoil_attribute(random: &Random, bodies: &mut [u8]) {
+    let body = BODY_BYTES * random.place(bodies.len() / BODY_BYTES);
+    let (at, length) = random.pick(&ATTRIBUTES);
+    let field = &mut bodies[body + at..body + at + length];
+    let bit = random.place(8 * length);
+    match random.below(6) {
+        0 => field[bit / 8] ^= 1 << (bit % 8),
+        1 => field.iter_mut().for_each(|byte| *byte = random.word() as u8),
+        2 => field.fill(0),
+        _ => {
+            let number = u128::from(random.pick(&LIMITS)).to_le_bytes();
+            field.copy_from_slice(&number[..length]);
+        }
+    }
+}
+
+fn word(words: &[u8], place: usize) -> u64 {
+    little_endian(&words[WORD_BYTES * place..WORD_BYTES * (place + 1)]) as u64
+}
+
+fn put_word(words: &mut [u8], place: usize, word: u64) {
+    words[WORD_BYTES * place..WORD_BYTES * (place + 1)].copy_from_slice(&word.to_le_bytes());
+}

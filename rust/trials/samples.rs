@@ -1,0 +1,314 @@
+//! Random cards and items. Numbers are small and chosen near the set's limits, so that thresholds, typicals, maximums and recovery
+//! times are met and crossed often.
+
+use crate::random::Random;
+use model::commands::{
+    COMMAND_BYTES, CONFIGURATION, GET_FEATURES, GET_LOG_PAGE, IDENTIFY, LIST_PAGE, SET_FEATURES, SET_LIST, SET_PAGE, WINDOW,
+};
+use model::layout::{BODY_BYTES, MAX_SETS};
+use model::set::{Quantity, Set, Window, DAY};
+
+const OPCODES: [u8; 4] = [GET_LOG_PAGE, IDENTIFY, SET_FEATURES, GET_FEATURES];
+const SAVE: u32 = 1 << 31;
+const RETAIN: u32 = 1 << 15;
+
+/// What a card is given after its set-up.
+#[derive(Clone, Debug)]
+pub enum Item {
+    Command { command: Vec<u8>, data: Vec<u8> },
+    Reads { set: u16, count: u16 },
+    Writes { set: u16, count: u16 },
+    Excursion { set: u16 },
+    Tick { milliseconds: u32 },
+}
+
+/// Good bodies of 1 to 31 sets.
+pub fn bodies(random: &Random) -> Vec<u8> {
+    let sets = match random.below(8) {
+        0 => 1,
+        1 => MAX_SETS as u64,
+        2..=5 => random.between(1, 4),
+        _ => random.between(1, MAX_SETS as u64),
+    };
+    let largest_step = random.pick(&[1, 2, 3, 2_000]);
+    let mut identifier = if random.once_in(16) { u64::from(u16::MAX) - sets * largest_step } else { 0 };
+    let mut bodies = Vec::new();
+    for _ in 0..sets {
+        identifier += random.between(1, largest_step);
+        bodies.extend(body(random, identifier as u16));
+    }
+    bodies
+}
+
+/// A good body.
+pub fn body(random: &Random, identifier: u16) -> Vec<u8> {
+    let total = u128::from(random.uneven()) << 64 | u128::from(random.word());
+    let unallocated = match random.below(4) {
+        0 => total,
+        1 => 0,
+        _ => total >> random.below(128),
+    };
+    let high = time(random, 12);
+    let mut body = Vec::with_capacity(BODY_BYTES);
+    body.extend(identifier.to_le_bytes());
+    body.extend((random.between(1, 65_535) as u16).to_le_bytes());
+    body.extend((random.word() as u32).to_le_bytes());
+    body.extend((random.uneven() as u32).to_le_bytes());
+    body.extend(total.to_le_bytes());
+    body.extend(unallocated.to_le_bytes());
+    for number in [typical(random), typical(random), time(random, 60), high, random.between(1, high)] {
+        body.extend(number.to_le_bytes());
+    }
+    body
+}
+
+fn typical(random: &Random) -> u64 {
+    match random.below(16) {
+        0 => u64::from(u32::MAX),
+        1 => random.between(1, u64::from(u32::MAX)),
+        2 => random.between(1, 200_000),
+        3 => 1,
+        _ => random.between(1, 40),
+    }
+}
+
+fn time(random: &Random, common: u64) -> u64 {
+    match random.below(24) {
+        0 => DAY,
+        1 => random.between(1, DAY),
+        2 => 1,
+        _ => random.between(1, common),
+    }
+}
+
+/// An item for a card that holds these sets.
+pub fn item(random: &Random, sets: &[Set]) -> Item {
+    let set = &sets[random.place(sets.len())];
+    match random.below(40) {
+        0..=9 => Item::Reads { set: event_set(random, set), count: event_count(random, set, Quantity::Reads) },
+        10..=15 => Item::Writes { set: event_set(random, set), count: event_count(random, set, Quantity::Writes) },
+        16 => Item::Excursion { set: event_set(random, set) },
+        17..=21 => Item::Tick { milliseconds: milliseconds(random, set) },
+        _ => command_item(random, sets),
+    }
+}
+
+fn event_set(random: &Random, set: &Set) -> u16 {
+    if random.once_in(24) {
+        other_set(random, set)
+    } else {
+        set.attributes.identifier
+    }
+}
+
+/// An identifier that is near or random, and may be in the table or not.
+fn other_set(random: &Random, set: &Set) -> u16 {
+    let identifier = set.attributes.identifier;
+    random.pick(&[0, identifier - 1, identifier.wrapping_add(1), random.word() as u16, u16::MAX])
+}
+
+fn event_count(random: &Random, set: &Set, quantity: Quantity) -> u16 {
+    let count = match random.below(8) {
+        0..=2 => random.below(4),
+        3..=5 => near_an_edge(random, set, quantity),
+        6 => random.below(50),
+        _ => random.word(),
+    };
+    count.min(u64::from(random.pick(&[u16::MAX, u16::MAX, 100]))) as u16
+}
+
+fn milliseconds(random: &Random, set: &Set) -> u32 {
+    let recovery = set.attributes.minimum_high - set.n_time.min(set.attributes.minimum_high);
+    let number = match random.below(24) {
+        0..=8 => random.below(4),
+        9..=13 => near_an_edge(random, set, Quantity::Time),
+        14..=19 => random.pick(&[recovery, recovery + 1, recovery.saturating_sub(1), set.attributes.minimum_high]),
+        20 => set.estimate(Quantity::Time) + random.below(2 * set.attributes.minimum_high),
+        21 => random.pick(&[DAY - 1, DAY, DAY + 1]),
+        22 => random.below(100),
+        _ => random.word(),
+    };
+    number as u32
+}
+
+/// What brings the estimate to its threshold, or to zero, or one off.
+fn near_an_edge(random: &Random, set: &Set, quantity: Quantity) -> u64 {
+    let estimate = set.estimate(quantity);
+    let threshold = set.configuration.thresholds[quantity as usize];
+    let edge = random.pick(&[estimate, estimate.saturating_sub(threshold)]);
+    random.pick(&[edge, edge + 1, edge.saturating_sub(1)])
+}
+
+/// The fields of a command that 01 names.
+struct Fields {
+    opcode: u8,
+    dwords: [u32; 4],
+}
+
+impl Fields {
+    /// The whole command; what 01 does not name holds anything.
+    fn command(&self, random: &Random) -> Vec<u8> {
+        let mut command = random.bytes(COMMAND_BYTES);
+        command[0] = self.opcode;
+        for (place, dword) in command[40..56].chunks_exact_mut(4).zip(self.dwords) {
+            place.copy_from_slice(&dword.to_le_bytes());
+        }
+        command
+    }
+
+    /// Spoils one field.
+    fn mutate(&mut self, random: &Random, set: &Set) {
+        let other = u32::from(other_set(random, set));
+        let dword = random.place(4);
+        match random.below(9) {
+            0 => self.opcode = random.pick(&[0, 1, 3, 5, 7, 8, 11, random.word() as u8]),
+            1 => self.dwords[0] = self.dwords[0] & !0xFF | random.between(0, 0x18) as u32,
+            2 => self.dwords[0] |= SAVE,
+            3 => self.dwords[0] ^= 1 << random.between(8, 10),
+            4 => self.dwords[1] = self.dwords[1] & !0xFFFF | other,
+            5 => self.dwords[1] = self.dwords[1] & 0xFFFF | other << 16,
+            6 => self.dwords[dword] ^= 1 << random.below(32),
+            7 => self.dwords[dword] = random.word() as u32,
+            _ => self.opcode = random.pick(&OPCODES),
+        }
+    }
+}
+
+fn command_item(random: &Random, sets: &[Set]) -> Item {
+    let set = &sets[random.place(sets.len())];
+    if random.once_in(50) {
+        return Item::Command { command: random.bytes(COMMAND_BYTES), data: configuration(random, set) };
+    }
+    let mut fields = match random.below(18) {
+        0..=1 => set_configuration(random, set),
+        2..=4 => select_ready(random, sets),
+        5..=6 => set_window(random, set),
+        7 => get_feature(random, set, CONFIGURATION),
+        8 => get_feature(random, set, WINDOW),
+        9..=12 => get_log_page(random, set, SET_PAGE, 512),
+        13..=15 => get_log_page(random, set, LIST_PAGE, 72),
+        _ => identify(random, set),
+    };
+    if random.once_in(5) {
+        fields.mutate(random, set);
+    }
+    let takes_data = fields.opcode == SET_FEATURES && fields.dwords[0] as u8 == CONFIGURATION;
+    let data = if takes_data || random.once_in(4) { configuration(random, set) } else { Vec::new() };
+    Item::Command { command: fields.command(random), data }
+}
+
+/// A command on a feature of a set; bits that do not count are random.
+fn feature(random: &Random, opcode: u8, fid: u8, set: &Set, ignored: u32) -> Fields {
+    let set = u32::from(set.attributes.identifier);
+    let noise = random.word();
+    Fields {
+        opcode,
+        dwords: [
+            u32::from(fid) | noise as u32 & ignored,
+            set | (noise >> 16) as u32 & 0xFFFF_0000,
+            random.word() as u32,
+            random.word() as u32,
+        ],
+    }
+}
+
+fn set_configuration(random: &Random, set: &Set) -> Fields {
+    let mut fields = feature(random, SET_FEATURES, CONFIGURATION, set, 0x7FFF_FF00);
+    let enable = !random.once_in(5);
+    fields.dwords[2] = fields.dwords[2] & !1 | u32::from(enable);
+    fields
+}
+
+fn select(random: &Random, set: &Set, window: u32) -> Fields {
+    let mut fields = feature(random, SET_FEATURES, WINDOW, set, 0x7FFF_FF00);
+    fields.dwords[2] = fields.dwords[2] & !7 | window;
+    fields
+}
+
+/// Selects D for a set that may enter it, where there is one: else large cards would hardly leave N.
+fn select_ready(random: &Random, sets: &[Set]) -> Fields {
+    let start = random.place(sets.len());
+    let ready = |set: &&Set| set.window == Window::N && !set.too_early_for_d();
+    let set = sets[start..].iter().chain(&sets[..start]).find(ready).unwrap_or(&sets[start]);
+    select(random, set, Window::D as u32)
+}
+
+fn set_window(random: &Random, set: &Set) -> Fields {
+    let window = random.pick(&[1, 1, 1, 2, random.below(8) as u32]);
+    select(random, set, window)
+}
+
+fn get_feature(random: &Random, set: &Set, fid: u8) -> Fields {
+    feature(random, GET_FEATURES, fid, set, 0xFFFF_F800)
+}
+
+fn get_log_page(random: &Random, set: &Set, page: u8, page_bytes: u64) -> Fields {
+    let count = (dwords(random, page_bytes) - 1) as u32;
+    let offset = offset(random, page_bytes);
+    let retain = if random.once_in(2) { RETAIN } else { 0 };
+    let ignored = random.word() as u32 & 0x7F00;
+    let set = u32::from(set.attributes.identifier);
+    Fields {
+        opcode: GET_LOG_PAGE,
+        dwords: [u32::from(page) | ignored | retain | count << 16, count >> 16 | set << 16, offset as u32, (offset >> 32) as u32],
+    }
+}
+
+fn dwords(random: &Random, page_bytes: u64) -> u64 {
+    match random.below(16) {
+        0..=5 => random.between(1, 8),
+        6..=9 => page_bytes / 4,
+        10..=12 => random.between(1, 200),
+        13 => random.between(1, 1_024),
+        14 => random.pick(&[1_023, 1_024, 1_025]),
+        _ => random.pick(&[1 << 16, 1 << 16 | 1, 1 << 32, random.between(1, 1 << 32)]),
+    }
+}
+
+fn offset(random: &Random, page_bytes: u64) -> u64 {
+    match random.below(16) {
+        0..=7 => 0,
+        8..=11 => 4 * random.between(0, page_bytes / 4),
+        12 => random.pick(&[page_bytes - 4, page_bytes, page_bytes + 4]),
+        13 => random.below(page_bytes + 8),
+        14 => random.pick(&[1 << 32, 1 << 63, u64::MAX - 3, 4 | 1 << 40]),
+        _ => random.word(),
+    }
+}
+
+fn identify(random: &Random, set: &Set) -> Fields {
+    let near = other_set(random, set);
+    let from = u32::from(random.pick(&[0, 1, set.attributes.identifier, near]));
+    let noise = random.word();
+    Fields {
+        opcode: IDENTIFY,
+        dwords: [
+            u32::from(SET_LIST) | noise as u32 & 0xFFFF_FF00,
+            from | (noise >> 16) as u32 & 0xFFFF_0000,
+            random.word() as u32,
+            random.word() as u32,
+        ],
+    }
+}
+
+/// The data of feature 13h; the bytes that hold no field are random.
+fn configuration(random: &Random, set: &Set) -> Vec<u8> {
+    let enev = random.pick(&[0xC007, 0x0007, 0x4001, 0x8000, 0, 1 << random.below(16), random.word() as u16]);
+    let mut data = random.bytes(512);
+    data[0..2].copy_from_slice(&enev.to_le_bytes());
+    for (place, quantity) in data[32..56].chunks_exact_mut(8).zip([Quantity::Reads, Quantity::Writes, Quantity::Time]) {
+        place.copy_from_slice(&threshold(random, set.attributes.limit(quantity)).to_le_bytes());
+    }
+    data
+}
+
+fn threshold(random: &Random, limit: u64) -> u64 {
+    match random.below(12) {
+        0 => 0,
+        1 => limit,
+        2 => limit + 1,
+        3 => random.uneven(),
+        4 => u64::MAX,
+        _ => random.between(1, limit.min(30)),
+    }
+}
