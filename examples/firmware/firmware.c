@@ -1,0 +1,216 @@
+/*
+ * A first day with the card's library: two NVM Sets, one of them in Predictable Latency Mode, from set-up to the end of its
+ * deterministic window. The program plays all three parts: the firmware that owns the table, the host that sends commands, and the
+ * media that reports what was read. README.md has the build command.
+ */
+#include <stdbool.h>
+#include <stdio.h>
+
+#include "../../include/card.h"
+#include "bytes.h"
+
+#define SETS 2
+#define SET_7 7
+#define SET_9 9
+
+/* The whole state of the card. A firmware would keep it in memory that survives what the card must survive. */
+static uint8_t table[CARD_TABLE_BYTES(SETS)];
+
+/* Words for what the functions return */
+
+static const char *words(uint16_t status)
+{
+    switch (status) {
+    case CARD_OK:
+        return "done";
+    case CARD_INVALID_FIELD:
+        return "refused, a field is invalid";
+    case CARD_TOO_EARLY:
+        return "refused, too early";
+    case CARD_UNKNOWN_SET:
+        return "refused, no such set";
+    default:
+        return "refused";
+    }
+}
+
+static void tell(const char *what, uint16_t status)
+{
+    printf("%s: %s (%04Xh)\n", what, words(status), status);
+}
+
+/* The host's side: a command is 64 bytes, of which the card reads the opcode and a few dwords. */
+
+struct command {
+    uint8_t opcode;
+    uint32_t dword10, dword11, dword12;
+    const uint8_t *data; /* what goes to the card */
+    size_t data_len;
+    uint8_t *answer; /* room for what comes back */
+    size_t answer_len;
+};
+
+static uint16_t send_command(const struct command *c)
+{
+    uint8_t entry[CARD_COMMAND_BYTES] = {0}, reply[CARD_REPLY_BYTES];
+    entry[0] = c->opcode;
+    put_dword(entry, 10, c->dword10);
+    put_dword(entry, 11, c->dword11);
+    put_dword(entry, 12, c->dword12);
+    return card_command(table, sizeof table, entry, sizeof entry, c->data, c->data_len, c->answer, c->answer_len, reply,
+                        sizeof reply);
+}
+
+/* Set Features 13h: the mode is switched on, with the events that the host wants to hear of and a warning threshold of reads. */
+static uint16_t enable(uint16_t set, uint16_t events, uint64_t reads_threshold)
+{
+    uint8_t config[CARD_CONFIG_BYTES] = {0};
+    put_number(config, 2, events);
+    put_number(config + 32, 8, reads_threshold);
+    return send_command(&(struct command){
+        .opcode = 0x09, .dword10 = 0x13, .dword11 = set, .dword12 = 1, .data = config, .data_len = sizeof config});
+}
+
+/* Set Features 14h, with 1 for the deterministic window */
+static uint16_t select_deterministic(uint16_t set)
+{
+    return send_command(&(struct command){.opcode = 0x09, .dword10 = 0x14, .dword11 = set, .dword12 = 1});
+}
+
+/* Get Log Page, of so many bytes from the page's start. The number of dwords less one stands in dword 10 from bit 16 on; Retain
+ * Asynchronous Event, bit 15, is left 0: reading page 0Ah clears what it tells. */
+static bool read_log(uint8_t page, uint16_t set, uint8_t *bytes, size_t length)
+{
+    uint32_t dwords = (uint32_t)(length / 4);
+    uint16_t status = send_command(&(struct command){.opcode = 0x02,
+                                                     .dword10 = (dwords - 1) << 16 | page,
+                                                     .dword11 = (uint32_t)set << 16,
+                                                     .answer = bytes,
+                                                     .answer_len = length});
+    if (status != CARD_OK)
+        tell("read a log page", status);
+    return status == CARD_OK;
+}
+
+/* Pages in plain words */
+
+static const char *window(uint8_t number)
+{
+    static const char *const names[] = {"in no window, its mode is off", "in its deterministic window",
+                                        "in its non-deterministic window"};
+    return number < 3 ? names[number] : "in a window that this program does not know";
+}
+
+static void print_events(uint16_t events)
+{
+    static const struct {
+        uint16_t bit;
+        const char *name;
+    } all[] = {{0x0001, "few reads left"}, {0x0002, "few writes left"}, {0x0004, "little time left"},
+               {0x4000, "window used up"}, {0x8000, "excursion"}};
+    const char *before = "";
+    printf("  events: ");
+    for (size_t i = 0; i < sizeof all / sizeof *all; i++)
+        if (events & all[i].bit) {
+            printf("%s%s", before, all[i].name);
+            before = ", ";
+        }
+    printf("%s\n", events ? "" : "none");
+}
+
+static void print_left(const char *what, const uint8_t *page, unsigned estimate, unsigned whole)
+{
+    printf("  %s left: %llu of %llu\n", what, (unsigned long long)get_number(page + estimate, 8),
+           (unsigned long long)get_number(page + whole, 8));
+}
+
+/* Page 0Ah */
+static void print_set(uint16_t set)
+{
+    uint8_t page[512];
+    if (!read_log(0x0A, set, page, sizeof page))
+        return;
+    printf("set %u is %s\n", set, window(page[0]));
+    print_events((uint16_t)get_number(page + 2, 2));
+    print_left("reads", page, 128, 32);
+    print_left("writes", page, 136, 40);
+    print_left("ms", page, 144, 48);
+}
+
+/* Page 0Bh. The card lists at most its own sets, so the entries never run past the page. */
+static void print_listed(void)
+{
+    uint8_t page[72];
+    if (!read_log(0x0B, 0, page, sizeof page))
+        return;
+    uint64_t count = get_number(page, 8);
+    printf("sets with an event:");
+    for (uint64_t i = 0; i < count; i++)
+        printf(" %u", (unsigned)get_number(page + 8 + 2 * i, 2));
+    printf("%s\n", count ? "" : " none");
+}
+
+/* The day */
+
+static void set_up(void)
+{
+    static const uint64_t sets[SETS][ATTRIBUTES] = {
+        {[IDENTIFIER] = SET_7, [ENDURANCE_GROUP] = 1, [READS_TYPICAL] = 100, [WRITES_TYPICAL] = 50, [TIME_MAXIMUM] = 1000,
+         [MINIMUM_HIGH] = 20, [MINIMUM_LOW] = 5},
+        {[IDENTIFIER] = SET_9, [ENDURANCE_GROUP] = 1, [READS_TYPICAL] = 2000, [WRITES_TYPICAL] = 300, [TIME_MAXIMUM] = 5000,
+         [MINIMUM_HIGH] = 40, [MINIMUM_LOW] = 10},
+    };
+    uint8_t bodies[SETS * CARD_BODY_BYTES];
+    for (unsigned k = 0; k < SETS; k++)
+        put_body(bodies + k * CARD_BODY_BYTES, sets[k]);
+    tell("set up a card of sets 7 and 9", card_set_up(table, sizeof table, bodies, sizeof bodies));
+}
+
+/* A set that was just enabled has to recover before it can promise anything. */
+static void enter_window(void)
+{
+    tell("enable set 7", enable(SET_7, 0x4001, 10));
+    tell("select its deterministic window", select_deterministic(SET_7));
+    tell("20 ms go by", card_tick(table, sizeof table, 20));
+    tell("select its deterministic window", select_deterministic(SET_7));
+    print_set(SET_7);
+}
+
+static void be_warned(void)
+{
+    tell("91 reads of set 7", card_reads(table, sizeof table, SET_7, 91));
+    tell("12 writes of set 7", card_writes(table, sizeof table, SET_7, 12));
+    tell("300 ms go by", card_tick(table, sizeof table, 300));
+    print_listed();
+    print_set(SET_7);
+    print_listed();
+}
+
+static void use_up(void)
+{
+    tell("9 reads of set 7", card_reads(table, sizeof table, SET_7, 9));
+    print_set(SET_7);
+    tell("1 read of set 7", card_reads(table, sizeof table, SET_7, 1));
+    print_listed();
+    print_set(SET_7);
+    tell("select its deterministic window", select_deterministic(SET_7));
+    tell("20 ms go by", card_tick(table, sizeof table, 20));
+    print_set(SET_7);
+}
+
+static void meet_the_others(void)
+{
+    print_set(SET_9);
+    tell("select the deterministic window of set 9", select_deterministic(SET_9));
+    tell("1 read of set 8", card_reads(table, sizeof table, 8, 1));
+}
+
+int main(void)
+{
+    set_up();
+    enter_window();
+    be_warned();
+    use_up();
+    meet_the_others();
+    return 0;
+}
