@@ -161,18 +161,18 @@ pub fn words_of(r: Record) -> [u64; ROW]
     fields_of(r)
 }
 
+// To the end even where two words differ: a loop with no early exit is unrolled, and words copied unchanged cost nothing.
 fn same_words(a: &[u64], b: &[u64]) -> bool
     requires { ⌜ length (now a) ≡ length (now b) ⌝ }
     ensures { λ r. ⌜ r ≡ sameWords (now (a .entry)) (now (b .entry)) ⌝ }
 {
+    let mut same = true;
     let mut i = 0;
     while i < a.len() {
-        if a[i] != b[i] {
-            return false;
-        }
+        same = same & (a[i] == b[i]);
         i += 1;
     }
-    true
+    same
 }
 
 pub fn legal_row(a: [u64; ROW]) -> bool
