@@ -3,7 +3,7 @@
  *
  * The card's whole state is one region of bytes, the table, which the caller owns, keeps and lends to each call. The library
  * holds nothing between calls, takes no memory of its own, starts no thread and prints nothing. Tables are independent: calls
- * on different tables may run at the same time.
+ * on different tables may run at the same time. A call takes less than 16 KiB of stack.
  *
  * Every function takes any bytes whatever. It returns CARD_OK, or the one number below that says why it refused; a refused
  * call changes no byte of the table and no byte of the answer buffer. All numbers in the regions are little-endian, and no
@@ -11,9 +11,11 @@
  *
  * Regions that are lent to one call must not overlap. A pointer may be NULL where its length is 0.
  *
- * Numbers of type x 256 + code, as an NVMe completion has them. Where several hold, the first of this order is returned:
- * of set-up CARD_BAD_SET_UP, CARD_TOO_SHORT; of a media event or a tick CARD_BAD_TABLE, CARD_UNKNOWN_SET or CARD_LONG_TICK;
- * of a command the order in which they are listed here.
+ * The numbers are status type x 256 + status code, as an NVMe completion has them. Where several hold, the first of this
+ * order is returned: of set-up CARD_BAD_SET_UP, CARD_TOO_SHORT; of a media event CARD_BAD_TABLE, CARD_UNKNOWN_SET; of a tick
+ * CARD_BAD_TABLE, CARD_LONG_TICK; of a command
+ *   CARD_BAD_TABLE, CARD_BAD_COMMAND, CARD_INVALID_OPCODE, CARD_INVALID_FIELD (feature or CNS), CARD_INVALID_LOG_PAGE,
+ *   CARD_NOT_SAVEABLE, CARD_INVALID_FIELD (all else), CARD_TOO_SHORT, CARD_TOO_EARLY.
  */
 #ifndef CARD_H
 #define CARD_H
@@ -80,7 +82,7 @@ uint16_t card_set_up(uint8_t *table, size_t table_len, const uint8_t *bodies, si
  *          as it has room for; bytes after the sixteenth keep what they held.
  *
  * A successful read of page 0Ah without Retain Asynchronous Event clears that set's events, and its entry on page 0Bh.
- * Returns the status: CARD_OK, or the first of the first list above that holds.
+ * Returns the status.
  */
 uint16_t card_command(uint8_t *table, size_t table_len, const uint8_t *command, size_t command_len, const uint8_t *data,
                       size_t data_len, uint8_t *answer, size_t answer_len, uint8_t *reply, size_t reply_len);

@@ -1,0 +1,48 @@
+-- What a refused call leaves; and how firm each statement is: any two outcomes that it allows coincide.
+use mathlib.Core.Path.{_≡_, sym, ap, _∙_}
+use mathlib.Core.List.{List}
+use Prim.Native.Nat.{ℕ}
+use lib.ListN.{length}
+use Rattle.card.specs.Items.{Item}
+use Rattle.card.specs.Words.{Result, stepWords}
+use Rattle.card.specs.SetUp.{setUp}
+use Rattle.card.proofs.OnWords.{refused-words}
+use Rattle.card.proofs.Exact.{exactly-words, set-up-refused, set-up-exactly}
+use Rattle.card_c.specs.Entries.{tableIn, tableOut, EventAtC, SetUpAtC, CommandAtC}
+use Rattle.card_c.specs.Demands.{RefusedEvent, RefusedSetUp, RefusedCommand}
+use Rattle.card_c.proofs.Region.{own-region}
+
+pub refused-event : RefusedEvent
+refused-event region i after number each e n =
+    let ws = tableIn region in
+    let d = refused-words ws i (λ z. n (e .status ∙ exactly-words ws i ∙ z)) in
+    e .table ∙ ap (λ (x : Result). tableOut region (x .table)) d ∙ own-region region each
+
+pub refused-set-up : RefusedSetUp
+refused-set-up bodies region after number each e n =
+    let ws = tableIn region in
+    let d = set-up-refused bodies ws (λ z. n (e .status ∙ set-up-exactly bodies ws ∙ z)) in
+    e .table ∙ ap (λ (x : Result). tableOut region (x .table)) d ∙ own-region region each
+
+pub refused-command : RefusedCommand
+refused-command region i before reply₀ number after buffer said each e n =
+    let ws = tableIn region in
+    let d = refused-words ws i (λ z. n (e .status ∙ exactly-words ws i ∙ z)) in (
+      e .table ∙ ap (λ (x : Result). tableOut region (x .table)) d ∙ own-region region each,
+      rw d at (e .answer),
+      rw d at (e .reply),
+    )
+
+-- ---- firmness
+
+pub one-event : (region : List ℕ) (i : Item) (v w : List ℕ) (s t : ℕ) → EventAtC region i v s → EventAtC region i w t → (v ≡ w) × (s ≡ t)
+one-event region i v w s t h k = (h .table ∙ sym (k .table), h .status ∙ sym (k .status))
+
+pub one-set-up : (bodies region v w : List ℕ) (s t : ℕ) → SetUpAtC bodies region v s → SetUpAtC bodies region w t → (v ≡ w) × (s ≡ t)
+one-set-up bodies region v w s t h k = (h .table ∙ sym (k .table), h .status ∙ sym (k .status))
+
+pub one-command :
+    (region : List ℕ) (i : Item) (before reply₀ : List ℕ) (s t : ℕ) (v w x y p q : List ℕ)
+    → CommandAtC region i before reply₀ s v x p → CommandAtC region i before reply₀ t w y q → (s ≡ t) × (v ≡ w) × (x ≡ y) × (p ≡ q)
+one-command region i before reply₀ s t v w x y p q h k =
+    (h .status ∙ sym (k .status), h .table ∙ sym (k .table), h .answer ∙ sym (k .answer), h .reply ∙ sym (k .reply))
