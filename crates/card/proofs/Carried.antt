@@ -1,7 +1,7 @@
 -- A command carried out on the set that it names, and one that is refused there.
 use mathlib.Core.Path.{_≡_, refl, sym, ap, subst, _∙_}
 use mathlib.Core.Bool.{true}
-use mathlib.Core.List.{List}
+use mathlib.Core.List.{List, []}
 use Prim.Native.Nat.{ℕ}
 use native.Mathlib.Omega.{arith}
 use borrow.Author.Tests.{eq-eqb, ne-eqb}
@@ -11,7 +11,7 @@ use Rattle.octets.specs.Octets.{padded}
 use Rattle.record.specs.declared.Record.{Record}
 use Rattle.record.specs.Events.{settled}
 use Rattle.replies.specs.declared.Reply.{Reply}
-use Rattle.replies.specs.Answers.{Answer, answered, refused, refusing, Replied}
+use Rattle.replies.specs.Answers.{Answer, answered, granted, refused, refusing, Replied}
 use Rattle.table.specs.Layout.{wordsOf, recordOf}
 use Rattle.table.specs.Table.{row, put}
 use Rattle.card.specs.declared.commands.Command.{Command}
@@ -32,6 +32,18 @@ pub handed :
 handed k c r e w from n page before after x ew ep ef en h =
     let q : answered 0 w (padded page from n) ≡ doneBy k c r = rw (ew, ep, ef, en) (done-is k c r e) in
     subst (λ (a : Answer). Replied a before x after) q h
+
+-- a command that hands out no byte
+pub handed-none :
+    (k : Kind) (c : Command) (r : Record) → isNamed k ≡ true → (w n : ℕ) (before : List ℕ) → w ≡ dwordBy k r → n ≡ needsOut k c → n ≡ 0
+    → Replied (doneBy k c r) before (record { status = 0; dword = w; len = 0 }) before
+handed-none k c r e w n before ew en z =
+    let none : needsOut k c ≡ 0 = sym en ∙ z in
+    let q : granted w [] ≡ doneBy k c r = rw ew (rw none at (done-is k c r e)) in
+    subst
+    (λ (a : Answer). Replied a before (record { status = 0; dword = w; len = 0 }) before)
+    q
+    (record { status = refl; dword = refl; len = refl; within = omega arith; buffer = refl; part = refl })
 
 pub fine-on : (k : Kind) (c : Command) (given room : ℕ) (r : Record) (s : ℕ) → k ≡ kindOf c → s ≡ statusOn k c given room r → s ≡ 0 → Fine k c given room
 unfolding statusOn

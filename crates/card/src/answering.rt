@@ -178,15 +178,22 @@ fn named_by(k: Kind, c: Command) -> u16
     }
 }
 
-// The data of a command on a set, from the record before it is changed.
+// The data of a command on a set, from the record before it is changed. A command without data makes no page.
 fn hand_by(k: Kind, c: Command, r: Record, answer: &mut [u8]) -> Reply
     requires { ⌜ (isNamed k ≡ true) × (fromBy k c ≤ latencySize) × (needsOut k c ≤ length (now answer)) ⌝ }
     ensures { λ x. ⌜ Replied (doneBy k c r) (now (answer .entry)) x (now (answer .exit)) ⌝ }
 {
-    let page = page_by(k, r);
     let dword = dword_by(k, r);
-    let from = from_by(k, c);
     let n = needs_out(k, c) as usize;
+    if n == 0 {
+        return Reply {
+            status: 0,
+            dword,
+            len: 0,
+        };
+    }
+    let page = page_by(k, r);
+    let from = from_by(k, c);
     replies::hand_out(0, dword, &page, from, n, answer)
 }
 

@@ -25,9 +25,9 @@ use Rattle.card.specs.Words.{Result, stepWords, Stepped, Answered}
 use Rattle.card.specs.SetUp.{setUp, SetUp}
 use Rattle.card.proofs.Shapes.{bool-cases}
 use Rattle.card.proofs.Past.{beside, step-unsized, step-past, length-step, set-up-past, length-set-up}
-use Rattle.card_c.specs.Entries.{tableIn, tableOut, EventAtC, SetUpAtC, AnswerAtC, replyPart, CommandAtC}
+use Rattle.card_c.specs.Entries.{tableIn, tableOut, EventAtC, SetUpAtC, replyPart, CommandAtC}
 use Rattle.card_c.specs.declared.lent.Report.{Report}
-use Rattle.card_c.specs.Lent.{itemBy, Extent, EventOn, SetUpOn, AnswerOn}
+use Rattle.card_c.specs.Lent.{itemBy, Extent, EventOn, SetUpOn, AnswerOn, AnswerAtC}
 
 -- ---- how many words are a table's
 

@@ -8,10 +8,8 @@ use lib.Seq.{sets}
 use Rattle.octets.specs.Octets.{padded}
 use Rattle.octets.specs.Pages.{field, place}
 use Rattle.octets.specs.Words.{wordSize, wordsFrom, putWords}
-use Rattle.replies.specs.declared.Reply.{Reply}
-use Rattle.replies.specs.Answers.{Answer, Replied}
 use Rattle.card.specs.Items.{Item}
-use Rattle.card.specs.Words.{Result, stepWords}
+use Rattle.card.specs.Words.{stepWords}
 use Rattle.card.specs.SetUp.{setUp}
 
 -- the words of a region: of a length that is no multiple of 8 the whole words count, and the rest is past the table
@@ -31,11 +29,6 @@ pub record EventAtC (region : List ℕ) (i : Item) (after : List ℕ) (number : 
 pub record SetUpAtC (bodies region after : List ℕ) (number : ℕ) : Type 0 where
   pub table : after ≡ tableOut region (setUp bodies (tableIn region) .table)
   pub status : number ≡ setUp bodies (tableIn region) .answer .status
-
--- a command: the region, and its reply by value with every byte of the answer buffer
-pub record AnswerAtC (region : List ℕ) (i : Item) (before : List ℕ) (r : Reply) (after buffer : List ℕ) : Type 0 where
-  pub table : after ≡ tableOut region (stepWords (tableIn region) i .table)
-  pub reply : Replied (stepWords (tableIn region) i .answer) before r buffer
 
 -- ---- what a command says beside its status, in a region of its own
 

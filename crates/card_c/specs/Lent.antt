@@ -35,6 +35,11 @@ pub record AnswerOn (region : List ℕ) (n : ℕ) (i : Item) (before : List ℕ)
   pub table : after ≡ tableOut region (stepWords (wordsFrom region 0 n) i .table)
   pub reply : Replied (stepWords (wordsFrom region 0 n) i .answer) before r buffer
 
+-- a command on all of them, with its reply by value
+pub record AnswerAtC (region : List ℕ) (i : Item) (before : List ℕ) (r : Reply) (after buffer : List ℕ) : Type 0 where
+  pub table : after ≡ tableOut region (stepWords (tableIn region) i .table)
+  pub reply : Replied (stepWords (tableIn region) i .answer) before r buffer
+
 pub record SetUpOn (bodies region : List ℕ) (n : ℕ) (after : List ℕ) (number : ℕ) : Type 0 where
   pub table : after ≡ tableOut region (setUp bodies (wordsFrom region 0 n) .table)
   pub status : number ≡ setUp bodies (wordsFrom region 0 n) .answer .status

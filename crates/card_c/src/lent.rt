@@ -5,9 +5,8 @@ ghost use lib.ListN.{length};
 ghost use Rattle.octets.specs.Words.{wordSize};
 ghost use Rattle.card.specs.Items.{Item};
 ghost use Rattle.card.specs.Words.{Stepped};
-ghost use Rattle.card_c.specs.Entries.{EventAtC, SetUpAtC, AnswerAtC};
-ghost use Rattle.card_c.specs.Lent.{Extent, itemBy, EventOn, SetUpOn, AnswerOn};
-use crate::least;
+ghost use Rattle.card_c.specs.Entries.{EventAtC, SetUpAtC};
+ghost use Rattle.card_c.specs.Lent.{Extent, itemBy, EventOn, SetUpOn, AnswerOn, AnswerAtC};
 use card::answering::command;
 use card::media::Media;
 use card::media::event;
@@ -122,6 +121,6 @@ pub(crate) fn new_table(region: &mut [u8], bodies: &[u8]) -> u16
     ensures { λ x. ⌜ SetUpAtC (now (bodies .entry)) (now (region .entry)) (now (region .exit)) x ⌝ }
 {
     let mut words = [0u64; MOST];
-    let n = least(region.len() / 8, MOST);
+    let n = octets::least(region.len() / 8, MOST);
     set_up_on(region, &mut words[0..n], bodies)
 }

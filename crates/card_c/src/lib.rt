@@ -2,8 +2,6 @@
 mod lent;
 mod reply;
 
-ghost use mathlib.Core.Path.{_≡_};
-ghost use Prim.Native.Nat.{min};
 ghost use lib.ListN.{length};
 ghost use Rattle.card.specs.Items.{Item};
 ghost use Rattle.card_c.specs.Entries.{EventAtC, SetUpAtC, CommandAtC};
@@ -13,12 +11,6 @@ use crate::lent::new_table;
 use crate::lent::note;
 use crate::reply::put_reply;
 use card::media::Media;
-
-fn least(a: usize, b: usize) -> usize
-    ensures { λ r. ⌜ r ≡ min a b ⌝ }
-{
-    if a < b { a } else { b }
-}
 
 #[no_mangle]
 pub extern "C" fn card_set_up(table: &mut [u8], bodies: &[u8]) -> u16

@@ -3,7 +3,6 @@ ghost use mathlib.Core.Path.{_≡_};
 ghost use lib.ListN.{length};
 ghost use lib.Seq.{sets};
 ghost use Rattle.card_c.specs.Entries.{replyPage, replyPart};
-use crate::least;
 
 const REPLY: usize = 16;
 
@@ -28,6 +27,6 @@ pub(crate) fn put_reply(reply: &mut [u8], dword: u32, len: usize)
     ensures { λ _. ⌜ now (reply .exit) ≡ sets (now (reply .entry)) 0 (replyPart dword len (length (now (reply .entry)))) ⌝ }
 {
     let page = reply_page(dword, len);
-    let n = least(reply.len(), REPLY);
+    let n = octets::least(reply.len(), REPLY);
     octets::copy_part(&page, 0, n, reply);
 }

@@ -7,7 +7,7 @@ use native.Mathlib.Nat.{pow-suc, pow-le-pow-right, lt-of-lt-of-le}
 use native.Mathlib.Numerals.{add-one}
 use lib.Arith.{digits-lt}
 use lib.Dec.{lit<}
-use lib.ListN.{length, getD, set}
+use lib.ListN.{length, getD, set, List·getD-eq-default}
 use lib.Seq.{sets, drop-cons}
 use Rattle.octets.specs.Octets.{bytesOf, numberOf, part, padded}
 
@@ -41,6 +41,12 @@ copy-turn l page from n i h =
     let e : n - i ≡ suc (n - (i + 1)) = omega arith in
     let s : suc (from + i) ≡ from + (i + 1) = omega arith in
     rw (e, s, add-one)
+
+-- past the page's end
+pub zero-turn : (l page : List ℕ) (from n i : ℕ) → i < n → length page ≤ from + i
+    → sets (set l i 0) (i + 1) (padded page (from + (i + 1)) (n - (i + 1))) ≡ sets l i (padded page (from + i) (n - i))
+zero-turn l page from n i h past =
+    let z : getD page (from + i) 0 ≡ 0 = simp List·getD-eq-default in rw z at (copy-turn l page from n i h)
 
 pub copy-end : (l page : List ℕ) (from n i : ℕ) → n ≤ i → sets l i (padded page (from + i) (n - i)) ≡ l
 copy-end l page from n i h = let e : n - i ≡ 0 = omega arith in rw e

@@ -4,7 +4,7 @@ pub mod words;
 
 ghost use mathlib.Core.Path.{_≡_};
 ghost use mathlib.Core.Bool.{true};
-ghost use Prim.Native.Nat.{_+_, _<_, _≤_};
+ghost use Prim.Native.Nat.{_+_, _<_, _≤_, min};
 ghost use lib.ListN.{length, getD};
 ghost use lib.Seq.{sets};
 ghost use Rattle.octets.specs.Octets.{bytesOf, numberOf, part, padded};
@@ -46,10 +46,10 @@ pub fn get(buf: &[u8], at: usize, width: usize) -> u64
     x
 }
 
-fn at_or_zero(s: &[u8], i: usize) -> u8
-    ensures { λ r. ⌜ r ≡ getD (now (s .entry)) i 0 ⌝ }
+pub fn least(a: usize, b: usize) -> usize
+    ensures { λ r. ⌜ r ≡ min a b ⌝ }
 {
-    if i < s.len() { s[i] } else { 0 }
+    if a < b { a } else { b }
 }
 
 // The first n bytes of the answer become the page's from place `from`, with zeros past its end.
@@ -57,9 +57,14 @@ pub fn copy_part(page: &[u8], from: usize, n: usize, answer: &mut [u8])
     requires { ⌜ (from ≤ length (now page)) × (n ≤ length (now answer)) ⌝ }
     ensures { λ _. ⌜ now (answer .exit) ≡ sets (now (answer .entry)) 0 (padded (now (page .entry)) from n) ⌝ }
 {
+    let m = least(page.len() - from, n);
     let mut i = 0;
+    while i < m {
+        answer[i] = page[from + i];
+        i += 1;
+    }
     while i < n {
-        answer[i] = at_or_zero(page, from + i);
+        answer[i] = 0;
         i += 1;
     }
 }

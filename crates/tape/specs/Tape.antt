@@ -15,6 +15,16 @@ use Rattle.tape.specs.Text.{itemLine}
 use Rattle.tape.specs.declared.Next.{Next}
 use Rattle.tape.specs.declared.Next.the-variants.{Whole, Short, Bad, Over}
 
+-- the kinds that a definition below asks for; commands are 01h and 02h
+abbrev pub readsKind : ℕ
+readsKind = 3
+
+abbrev pub writesKind : ℕ
+writesKind = 4
+
+abbrev pub tickKind : ℕ
+tickKind = 6
+
 -- how long an item's body is, by its kind; 0 where the kind is none of an item's:
 -- "01h command, 64 bytes; 02h command with data, 576; 03h reads and 04h writes, set and count, 4; 05h excursion, 2; 06h tick, 4"
 abbrev pub bodySizes : List ℕ
@@ -39,13 +49,13 @@ abbrev pub commandSize : ℕ
 commandSize = 64
 
 abbrev pub mediaItem : ℕ → ℕ → ℕ → Item
-mediaItem kind set count = if eqb kind 3 then reads set count else if eqb kind 4 then writes set count else excursion set
+mediaItem kind set count = if eqb kind readsKind then reads set count else if eqb kind writesKind then writes set count else excursion set
 
 -- the item of a kind and a body that is as long as it should be
 abbrev pub itemBy : ℕ → List ℕ → Item
 itemBy kind body =
-    if ltb kind 3 then command (take commandSize body) (drop commandSize body) answerSize
-    else if eqb kind 6 then tick (numberAt body 0 4)
+    if ltb kind readsKind then command (take commandSize body) (drop commandSize body) answerSize
+    else if eqb kind tickKind then tick (numberAt body 0 4)
     else mediaItem kind (numberAt body 0 2) (numberAt body 2 2)
 
 abbrev pub isItem : ℕ → List ℕ → Bool
@@ -63,6 +73,7 @@ abbrev pub lineFor : List ℕ → Option Item → List ℕ
 lineFor ws none = []
 lineFor ws (some i) = itemLine (stepWords ws i .answer)
 
+-- what playing an item promises: every word of the table, every byte of the line, and the line's length
 pub record Played (ws : List ℕ) (i : Option Item) (line₀ : List ℕ) (n : ℕ) (words line : List ℕ) : Type 0 where
   pub table : words ≡ wordsAfter ws i
   pub text : line ≡ sets line₀ 0 (lineFor ws i)

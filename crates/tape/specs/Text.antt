@@ -16,9 +16,16 @@ newline = 10
 
 -- ---- numbers
 
--- a digit below 16, in upper case: '0' is 48, 'A' is 65
+-- the sign '0', and what is added to 10 to give the sign 'A'
+abbrev pub zeroSign : ℕ
+zeroSign = 48
+
+abbrev pub letterSign : ℕ
+letterSign = 55
+
+-- a digit below 16, in upper case
 abbrev pub digitOf : ℕ → ℕ
-digitOf d = if ltb d 10 then 48 + d else 55 + d
+digitOf d = if ltb d 10 then zeroSign + d else letterSign + d
 
 -- the last digits of a number, as many as `width`, the highest first
 abbrev pub digitsOf : ℕ → ℕ → ℕ → List ℕ
@@ -47,16 +54,26 @@ dataHex (b ∷ bs) = hexOf 2 b ++ dataHex bs
 
 -- ---- the lines
 
+-- the signs of "sets ", "end " and "bad "
+abbrev pub setsWord : List ℕ
+setsWord = 115 ∷ 101 ∷ 116 ∷ 115 ∷ space ∷ []
+
+abbrev pub endWord : List ℕ
+endWord = 101 ∷ 110 ∷ 100 ∷ space ∷ []
+
+abbrev pub badWord : List ℕ
+badWord = 98 ∷ 97 ∷ 100 ∷ space ∷ []
+
 -- "sets N SSSS"
 abbrev pub setsLine : ℕ → ℕ → List ℕ
-setsLine n status = (115 ∷ 101 ∷ 116 ∷ 115 ∷ space ∷ []) ++ decimalOf n ++ (space ∷ []) ++ hexOf 4 status ++ newline ∷ []
+setsLine n status = setsWord ++ decimalOf n ++ (space ∷ []) ++ hexOf 4 status ++ newline ∷ []
 
 -- "end N", "bad N"
 abbrev pub endLine : ℕ → List ℕ
-endLine n = (101 ∷ 110 ∷ 100 ∷ space ∷ []) ++ decimalOf n ++ newline ∷ []
+endLine n = endWord ++ decimalOf n ++ newline ∷ []
 
 abbrev pub badLine : ℕ → List ℕ
-badLine n = (98 ∷ 97 ∷ 100 ∷ space ∷ []) ++ decimalOf n ++ newline ∷ []
+badLine n = badWord ++ decimalOf n ++ newline ∷ []
 
 -- "a line per item of status, dword 0 and, if given, data, all upper-case hex"
 abbrev pub dataText : List ℕ → List ℕ

@@ -1,5 +1,5 @@
 use borrow.Author.Needs.{needs}
-use Rattle.card.proofs.Carried.{handed}
+use Rattle.card.proofs.Carried.{handed, handed-none}
 use Rattle.card.proofs.answering.hand_by.Statement.{statement}
 use Rattle.card.proofs.answering.hand_by.Tie as tie
 
@@ -9,6 +9,10 @@ hand-by-spec =
     (tie.spec
     (λ c κs. search needs)
     (λ c κs. search needs)
+    (λ c.
+    let n = c .before in
+    let s = n .before .before .before in
+    handed-none (s .args .k) (s .args .c) (s .args .r) (s .pre .0) _ _ _ (n .before .dword-by .ensures) (n .needs-out .ensures) (c .if1 .taken))
     (λ c κs. search needs)
     (λ c κs. search needs)
     (λ c. search needs)
@@ -16,7 +20,8 @@ hand-by-spec =
     (λ c. search needs)
     (λ c.
     let o = c .before .before in
-    let n = o .before .before .before in
-    let p = n .before .before .before in
-    let s = p .before .before in
-    handed (s .args .k) (s .args .c) (s .args .r) (s .pre .0) _ _ _ _ _ _ _ (n .before .before .dword-by .ensures) (p .page-by .ensures) (n .before .from-by .ensures) (n .needs-out .ensures) (o .hand-out .ensures)))
+    let f = o .before .before .before in
+    let p = f .before in
+    let n = p .before .before in
+    let s = n .before .before .before in
+    handed (s .args .k) (s .args .c) (s .args .r) (s .pre .0) _ _ _ _ _ _ _ (n .before .dword-by .ensures) (p .page-by .ensures) (f .from-by .ensures) (n .needs-out .ensures) (o .hand-out .ensures)))
