@@ -59,13 +59,13 @@ module _ (past ws : List ℕ) where
         (λ e. step-bad (ws ++ past) i (legal-past past ws room ∙ e) ∙ rw (step-bad ws i e))
         (bool-cases (legalTable ws))
 
-  -- set-up, where the words have room for the most sets
-  module _ (bytes : List ℕ) (room : rowStart maxSets ≤ length ws) where
+  -- set-up, where the words have room for its sets, if they are not too many
+  module _ (bytes : List ℕ) (room : bodies bytes ≤ maxSets → rowStart (bodies bytes) ≤ length ws) where
     lines-same : (b : Bool) → inRange maxSets (bodies bytes) ≡ b → setUpStatus bytes (length (ws ++ past)) ≡ setUpStatus bytes (length ws)
     unfolding setUpStatus
     lines-same true e =
         let few : bodies bytes ≤ maxSets = leb-true (bodies bytes) maxSets (both (leb 1 (bodies bytes)) _ e .1) in
-        let here : rowStart (bodies bytes) ≤ length ws = omega arith in
+        let here : rowStart (bodies bytes) ≤ length ws = room few in
         let there : rowStart (bodies bytes) ≤ length (ws ++ past) = omega (arith, length-append ws past) in
         rw (le-ltb (length ws) (rowStart (bodies bytes)) here, le-ltb (length (ws ++ past)) (rowStart (bodies bytes)) there)
     lines-same false e = rw e
@@ -78,7 +78,7 @@ module _ (past ws : List ℕ) where
         let w = well bytes (length ws) _ refl z in
         let many : rowStart (length (newSets bytes)) ≤ length (set ws 0 (bodies bytes)) =
         rw (new-length bytes, length-set ws 0 (bodies bytes)) (w .room) in
-        rw (set-append-left ws past 0 (bodies bytes) (omega arith)) (written-past past (set ws 0 (bodies bytes)) (newSets bytes) many)
+        rw (set-append-left ws past 0 (bodies bytes) (omega (arith, w .room))) (written-past past (set ws 0 (bodies bytes)) (newSets bytes) many)
 
     by-status :
         (s : ℕ) (b : Bool) → setUpStatus bytes (length ws) ≡ s → eqb s 0 ≡ b

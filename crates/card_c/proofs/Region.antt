@@ -6,13 +6,13 @@ use mathlib.Core.Logic.{⊎-elim}
 use Prim.Native.Nat.{ℕ, zero, suc, _+_, _*_, _-_, _/_, _≤_, _<_, min}
 use native.Mathlib.Omega.{arith}
 use native.Mathlib.Nat.{zero-add, le-refl}
-use borrow.Author.Tests.{leb-true, leb-false}
-use lib.Dec.{leb}
+use borrow.Author.Tests.{leb-true, leb-false, eqb-false}
+use lib.Dec.{leb, eqb}
 use lib.ListN.{length}
 use lib.Seq.{sets}
 use Rattle.octets.specs.Choice.{if_then_else_}
 use Rattle.octets.specs.Octets.{numberOf, part}
-use Rattle.octets.specs.Words.{wordSize, wordsFrom, putWords}
+use Rattle.octets.specs.Words.{wordSize, wordsFrom}
 use Rattle.octets.proofs.Tests.{both}
 use Rattle.octets.proofs.Passed.{AllBytes, length-words, words-append, own-words, put-first}
 use Rattle.record.specs.Legal.{maxSets, inRange}
@@ -22,12 +22,14 @@ use Rattle.table.specs.Table.{count, rowStart, roomFor, sized, extentOf}
 use Rattle.table.proofs.Known.{sized-known, sized-empty}
 use Rattle.card.specs.Items.{Item}
 use Rattle.card.specs.Words.{Result, stepWords, Stepped, Answered}
-use Rattle.card.specs.SetUp.{setUp, SetUp}
+use Rattle.card.specs.SetUp.{bodies, setUp, SetUp}
 use Rattle.card.proofs.Shapes.{bool-cases}
+use Rattle.card.proofs.OnWords.{refused-words}
+use Rattle.card.proofs.Exact.{exactly-words, set-up-refused, set-up-exactly}
 use Rattle.card.proofs.Past.{beside, step-unsized, step-past, length-step, set-up-past, length-set-up}
 use Rattle.card_c.specs.Entries.{tableIn, tableOut, EventAtC, SetUpAtC, replyPart, CommandAtC}
 use Rattle.card_c.specs.declared.lent.Report.{Report}
-use Rattle.card_c.specs.Lent.{itemBy, Extent, EventOn, SetUpOn, AnswerOn, AnswerAtC}
+use Rattle.card_c.specs.Lent.{itemBy, backBy, Extent, EventOn, SetUpOn, AnswerOn, AnswerAtC}
 
 -- ---- how many words are a table's
 
@@ -145,64 +147,86 @@ answer-at region n m i before r after buffer each x on e =
     let s = same region each i m (rw e x) in
     record { table = on .table ∙ s .table; reply = subst (λ (a : Answer). Replied a before r buffer) (s .answer) (on .reply) }
 
--- ---- set-up, on no more words than the most sets take
+-- ---- set-up, on no more words than its sets take
 
 set-up-all :
     (bodies region : List ℕ) (n : ℕ) (after : List ℕ) (number : ℕ) → n ≡ length region / wordSize → SetUpOn bodies region n after number → SetUpAtC bodies region after number
 set-up-all bodies region n after number e on = record { table = rw (← e) (on .table); status = rw (← e) (on .status) }
 
 set-up-most :
-    (bodies region : List ℕ) (n : ℕ) (after : List ℕ) (number : ℕ) → n ≤ length region / wordSize → n ≡ rowStart maxSets → AllBytes region → SetUpOn bodies region n after number → SetUpAtC bodies region after number
-set-up-most bodies region n after number fits e each on =
+    (bytes region : List ℕ) (n : ℕ) (after : List ℕ) (number : ℕ) → n ≤ length region / wordSize → (bodies bytes ≤ maxSets → rowStart (bodies bytes) ≤ n)
+    → AllBytes region → SetUpOn bytes region n after number → SetUpAtC bytes region after number
+set-up-most bytes region n after number fits e each on =
     let ws = first region n fits in
     let more = past region n fits in
-    let room : rowStart maxSets ≤ length ws = rw (length-words region 0 n, ← e) (le-refl n) in
-    let split = ap (λ (x : List ℕ). setUp bodies x) (halves region n fits) ∙ set-up-past more ws bodies room in
+    let split = ap (λ (x : List ℕ). setUp bytes x) (halves region n fits) ∙ set-up-past more ws bytes (λ few. rw (length-words region 0 n) (e few)) in
     record {
       table =
           on .table
-          ∙ put-back region n fits (setUp bodies ws .table) each (length-set-up bodies ws ∙ length-words region 0 n)
+          ∙ put-back region n fits (setUp bytes ws .table) each (length-set-up bytes ws ∙ length-words region 0 n)
           ∙ sym (ap (λ (x : Result). tableOut region (x .table)) split);
       status = on .status ∙ sym (ap (λ (x : Result). x .answer .status) split);
     }
 
 pub set-up-at :
-    (bodies region : List ℕ) (n : ℕ) (after : List ℕ) (number : ℕ)
-    → AllBytes region → SetUpOn bodies region n after number → n ≡ min (length region / wordSize) (rowStart maxSets) → SetUpAtC bodies region after number
-set-up-at bodies region n after number each on e =
+    (bytes region : List ℕ) (n : ℕ) (after : List ℕ) (number : ℕ)
+    → AllBytes region → SetUpOn bytes region n after number → n ≡ min (length region / wordSize) (rowStart (min (bodies bytes) maxSets))
+    → SetUpAtC bytes region after number
+set-up-at bytes region n after number each on e =
+    let most = rowStart (min (bodies bytes) maxSets) in
     ⊎-elim
-    (λ h. set-up-all bodies region n after number (omega (arith, leb-true (length region / wordSize) (rowStart maxSets) h)) on)
-    (λ h. set-up-most bodies region n after number (omega arith) (omega (arith, leb-false (length region / wordSize) (rowStart maxSets) h)) each on)
-    (bool-cases (leb (length region / wordSize) (rowStart maxSets)))
+    (λ h. set-up-all bytes region n after number (omega (arith, leb-true (length region / wordSize) most h)) on)
+    (λ h. set-up-most bytes region n after number (omega arith) (λ few. omega (arith, leb-false (length region / wordSize) most h)) each on)
+    (bool-cases (leb (length region / wordSize) most))
 
--- ---- words taken out, worked on and put back
+-- ---- words taken out, worked on and put back, or left where nothing was done
+
+-- the first words of a region are its own
+own-first : (region : List ℕ) (n : ℕ) → AllBytes region → n * wordSize ≤ length region → tableOut region (wordsFrom region 0 n) ≡ region
+own-first region n each h = own-words n 0 region region each refl (omega arith)
+
+-- a result with its status, put back by that status
+back :
+    (region : List ℕ) (n : ℕ) (status : ℕ) (t words after : List ℕ) → AllBytes region → n * wordSize ≤ length region
+    → words ≡ t → ((status ≡ 0 → ⊥) → t ≡ wordsFrom region 0 n) → after ≡ backBy status region words → after ≡ tableOut region t
+back region n status t words after each h e same p =
+    ⊎-elim
+    (λ z. (rw z at p) ∙ ap (tableOut region) e)
+    (λ z. (rw z at p) ∙ sym (ap (tableOut region) (same (eqb-false status 0 z)) ∙ own-first region n each h))
+    (bool-cases (eqb status 0))
+
+step-same : (ws : List ℕ) (i : Item) (status : ℕ) → status ≡ stepWords ws i .answer .status → (status ≡ 0 → ⊥) → stepWords ws i .table ≡ ws
+step-same ws i status e n = ap (λ (x : Result). x .table) (refused-words ws i (λ z. n (e ∙ exactly-words ws i ∙ z)))
 
 pub event-on :
-    (region : List ℕ) (n : ℕ) (i : Item) (before words after : List ℕ) (number : ℕ)
-    → before ≡ wordsFrom region 0 n → Stepped before i words number → after ≡ putWords region 0 words → EventOn region n i after number
-event-on region n i before words after number e s p =
-    record {
-      table = p ∙ ap (putWords region 0) (s .table ∙ ap (λ (x : List ℕ). stepWords x i .table) e);
-      status = s .status ∙ ap (λ (x : List ℕ). stepWords x i .answer .status) e;
-    }
+    (region : List ℕ) (n : ℕ) (i : Item) (before words after : List ℕ) (number : ℕ) → AllBytes region → n * wordSize ≤ length region
+    → before ≡ wordsFrom region 0 n → Stepped before i words number → after ≡ backBy number region words → EventOn region n i after number
+event-on region n i before words after number each h e s p =
+    let ws = wordsFrom region 0 n in
+    let t : words ≡ stepWords ws i .table = s .table ∙ ap (λ (x : List ℕ). stepWords x i .table) e in
+    let q : number ≡ stepWords ws i .answer .status = s .status ∙ ap (λ (x : List ℕ). stepWords x i .answer .status) e in
+    record { table = back region n number (stepWords ws i .table) words after each h t (step-same ws i number q) p; status = q }
 
 pub answer-on :
-    (region : List ℕ) (n : ℕ) (i : Item) (buffer : List ℕ) (r : Reply) (before words after handed : List ℕ)
-    → before ≡ wordsFrom region 0 n → Answered before i buffer r words handed → after ≡ putWords region 0 words → AnswerOn region n i buffer r after handed
-answer-on region n i buffer r before words after handed e a p =
-    record {
-      table = p ∙ ap (putWords region 0) (a .table ∙ ap (λ (x : List ℕ). stepWords x i .table) e);
-      reply = subst (λ (x : List ℕ). Replied (stepWords x i .answer) buffer r handed) e (a .reply);
-    }
+    (region : List ℕ) (n : ℕ) (i : Item) (buffer : List ℕ) (r : Reply) (before words after handed : List ℕ) → AllBytes region → n * wordSize ≤ length region
+    → before ≡ wordsFrom region 0 n → Answered before i buffer r words handed → after ≡ backBy (r .status) region words → AnswerOn region n i buffer r after handed
+answer-on region n i buffer r before words after handed each h e a p =
+    let ws = wordsFrom region 0 n in
+    let t : words ≡ stepWords ws i .table = a .table ∙ ap (λ (x : List ℕ). stepWords x i .table) e in
+    let q : Replied (stepWords ws i .answer) buffer r handed = subst (λ (x : List ℕ). Replied (stepWords x i .answer) buffer r handed) e (a .reply) in
+    record { table = back region n (r .status) (stepWords ws i .table) words after each h t (step-same ws i (r .status) (q .status)) p; reply = q }
+
+set-up-same : (bytes ws : List ℕ) (status : ℕ) → status ≡ setUp bytes ws .answer .status → (status ≡ 0 → ⊥) → setUp bytes ws .table ≡ ws
+set-up-same bytes ws status e n = ap (λ (x : Result). x .table) (set-up-refused bytes ws (λ z. n (e ∙ set-up-exactly bytes ws ∙ z)))
 
 pub set-up-on :
-    (bodies region : List ℕ) (n : ℕ) (before words after : List ℕ) (number : ℕ)
-    → before ≡ wordsFrom region 0 n → SetUp bodies before words number → after ≡ putWords region 0 words → SetUpOn bodies region n after number
-set-up-on bodies region n before words after number e s p =
-    record {
-      table = p ∙ ap (putWords region 0) (s .table ∙ ap (λ (x : List ℕ). setUp bodies x .table) e);
-      status = s .status ∙ ap (λ (x : List ℕ). setUp bodies x .answer .status) e;
-    }
+    (bytes region : List ℕ) (n : ℕ) (before words after : List ℕ) (number : ℕ) → AllBytes region → n * wordSize ≤ length region
+    → before ≡ wordsFrom region 0 n → SetUp bytes before words number → after ≡ backBy number region words → SetUpOn bytes region n after number
+set-up-on bytes region n before words after number each h e s p =
+    let ws = wordsFrom region 0 n in
+    let t : words ≡ setUp bytes ws .table = s .table ∙ ap (λ (x : List ℕ). setUp bytes x .table) e in
+    let q : number ≡ setUp bytes ws .answer .status = s .status ∙ ap (λ (x : List ℕ). setUp bytes x .answer .status) e in
+    record { table = back region n number (setUp bytes ws .table) words after each h t (set-up-same bytes ws number q) p; status = q }
 
 pub told : (ws : List ℕ) (r s : Report) (after : List ℕ) (number : ℕ) → r ≡ s → Stepped ws (itemBy s) after number → Stepped ws (itemBy r) after number
 told ws r s after number e h = rw e h

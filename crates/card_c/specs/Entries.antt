@@ -32,14 +32,14 @@ pub record SetUpAtC (bodies region after : List ℕ) (number : ℕ) : Type 0 whe
 
 -- ---- what a command says beside its status, in a region of its own
 
--- "dword 0 and the length of data, little-endian, .. the rest zero"
+-- docs/DECISIONS.md, "A command's reply to C": dword 0 at bytes 3:0, the length of data at 7:4, the rest zero
 abbrev pub replySize : ℕ
 replySize = 16
 
 unfoldable pub replyPage : ℕ → ℕ → List ℕ
 replyPage dword len = place replySize (field 0 4 dword ∷ field 4 4 len ∷ [])
 
--- "as far as the slice reaches"
+-- as many of them as the region has room for
 abbrev pub replyPart : ℕ → ℕ → ℕ → List ℕ
 replyPart dword len room = padded (replyPage dword len) 0 (min room replySize)
 

@@ -2,7 +2,9 @@
 use mathlib.Core.Path.{_≡_}
 use mathlib.Core.List.{List}
 use Prim.Native.Nat.{ℕ, _*_, _≤_}
+use lib.Dec.{eqb}
 use lib.ListN.{length}
+use Rattle.octets.specs.Choice.{if_then_else_}
 use Rattle.octets.specs.Words.{wordSize, wordsFrom}
 use Rattle.replies.specs.declared.Reply.{Reply}
 use Rattle.replies.specs.Answers.{Replied}
@@ -19,6 +21,10 @@ use Rattle.card_c.specs.Entries.{tableIn, tableOut}
 abbrev pub itemBy : Report → Item
 itemBy (OfSet id m) = itemOf id m
 itemBy (Tick t) = tick t
+
+-- the words put back, where the status is that of a success
+abbrev pub backBy : ℕ → List ℕ → List ℕ → List ℕ
+backBy status region ws = if eqb status 0 then tableOut region ws else region
 
 -- as many words as the region's header says, or none
 pub record Extent (region : List ℕ) (n : ℕ) : Type 0 where

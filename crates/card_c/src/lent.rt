@@ -6,7 +6,7 @@ ghost use Rattle.octets.specs.Words.{wordSize};
 ghost use Rattle.card.specs.Items.{Item};
 ghost use Rattle.card.specs.Words.{Stepped};
 ghost use Rattle.card_c.specs.Entries.{EventAtC, SetUpAtC};
-ghost use Rattle.card_c.specs.Lent.{Extent, itemBy, EventOn, SetUpOn, AnswerOn, AnswerAtC};
+ghost use Rattle.card_c.specs.Lent.{Extent, itemBy, backBy, EventOn, SetUpOn, AnswerOn, AnswerAtC};
 use card::answering::command;
 use card::media::Media;
 use card::media::event;
@@ -15,12 +15,17 @@ use card::setting::set_up;
 use octets::words::words_in;
 use octets::words::words_out;
 use record::SetId;
+use record::legal::MAX_SETS;
 use replies::Reply;
+use table::rows::HEADER;
+use table::rows::ROW;
 
 // The words of 31 sets, and of 8: a small card is not to pay for a large one's room.
 const MOST: usize = 745;
 
 const FEW: usize = 193;
+
+const BODY: usize = 84;
 
 // What the media layer and the clock report.
 pub(crate) enum Report {
@@ -55,13 +60,23 @@ fn report_to(words: &mut [u64], r: Report) -> u16
     }
 }
 
+// A refused call writes nothing, not even what was there.
+fn put_back(words: &[u64], region: &mut [u8], status: u16)
+    requires { ⌜ length (now words) * wordSize ≤ length (now region) ⌝ }
+    ensures { λ _. ⌜ now (region .exit) ≡ backBy status (now (region .entry)) (now (words .entry)) ⌝ }
+{
+    if status == 0 {
+        words_out(words, region);
+    }
+}
+
 fn note_on(region: &mut [u8], words: &mut [u64], r: Report) -> u16
     requires { ⌜ length (now words) * wordSize ≤ length (now region) ⌝ }
     ensures { λ x. ⌜ EventOn (now (region .entry)) (length (now (words .entry))) (itemBy r) (now (region .exit)) x ⌝ }
 {
     words_in(region, words);
     let status = report_to(words, r);
-    words_out(words, region);
+    put_back(words, region, status);
     status
 }
 
@@ -90,7 +105,7 @@ fn answer_on(
 {
     words_in(region, words);
     let reply = command(words, bytes, given, answer);
-    words_out(words, region);
+    put_back(words, region, reply.status);
     reply
 }
 
@@ -113,7 +128,7 @@ fn set_up_on(region: &mut [u8], words: &mut [u64], bodies: &[u8]) -> u16
 {
     words_in(region, words);
     let status = set_up(words, bodies);
-    words_out(words, region);
+    put_back(words, region, status);
     status
 }
 
@@ -121,6 +136,7 @@ pub(crate) fn new_table(region: &mut [u8], bodies: &[u8]) -> u16
     ensures { λ x. ⌜ SetUpAtC (now (bodies .entry)) (now (region .entry)) (now (region .exit)) x ⌝ }
 {
     let mut words = [0u64; MOST];
-    let n = octets::least(region.len() / 8, MOST);
+    let sets = octets::least(bodies.len() / BODY, MAX_SETS);
+    let n = octets::least(region.len() / 8, HEADER + sets * ROW);
     set_up_on(region, &mut words[0..n], bodies)
 }

@@ -4,9 +4,14 @@ use tape::lines::LINE;
 
 pub const SIZE: usize = 65536;
 
+// A write that fails is said on standard error.
 pub fn flush(out: &[u8], used: usize) {
     if used <= out.len() {
-        io::write_all(STDOUT_FILENO, &out[0..used]);
+        let written = io::write_all(STDOUT_FILENO, &out[0..used]);
+        if written {
+            return;
+        }
+        os::fail(b"write");
     }
 }
 

@@ -15,7 +15,7 @@ use Rattle.tape.specs.Text.{itemLine}
 use Rattle.tape.specs.declared.Next.{Next}
 use Rattle.tape.specs.declared.Next.the-variants.{Whole, Short, Bad, Over}
 
--- the kinds that a definition below asks for; commands are 01h and 02h
+-- kinds of items; 01h and 02h are commands, and 05h, the excursion, is what is left
 abbrev pub readsKind : ℕ
 readsKind = 3
 

@@ -1,3 +1,4 @@
+use Prim.Native.Nat.{ℕ}
 use borrow.Author.Needs.{needs}
 use Rattle.card_c.proofs.Region.{answer-on}
 use Rattle.card_c.proofs.lent.answer_on.Statement.{statement}
@@ -13,4 +14,6 @@ answer-on-spec =
     (λ c. search needs)
     (λ c. search needs)
     (λ c. search needs)
-    (λ c. answer-on _ _ _ _ _ _ _ _ _ (c .before .before .before .before .before .before .before .before .before .before .before .before .before .before .words-in .ensures) (c .before .before .before .before .before .before .before .before .before .command .ensures) (c .before .before .words-out .ensures)))
+    (λ c.
+    let s = c .before .before .before .before .before .before .before .before .before .before .before .before .before .before .before .before .before .before .before .before .before .before in
+    answer-on _ _ _ _ _ _ _ _ _ (λ (i : ℕ). c .before .before .before .before .before .before .before .before .before .before .before .before .before .before .before .before .before .before .before .before .before .slice-known .given i .fits) (s .pre) (c .before .before .before .before .before .before .before .before .before .before .before .before .before .before .words-in .ensures) (c .before .before .before .before .before .before .before .before .before .command .ensures) (c .before .before .put-back .ensures)))
