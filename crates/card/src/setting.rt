@@ -22,7 +22,7 @@ use record::notices::no_events;
 use table::rows::HEADER;
 use table::rows::ROW;
 
-const BODY: usize = 84;
+pub const BODY: usize = 84;
 
 fn off() -> State
     ensures { λ r. ⌜ r ≡ newState ⌝ }

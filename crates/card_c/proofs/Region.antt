@@ -11,10 +11,10 @@ use lib.Dec.{leb, eqb}
 use lib.ListN.{length}
 use lib.Seq.{sets}
 use Rattle.octets.specs.Choice.{if_then_else_}
-use Rattle.octets.specs.Octets.{numberOf, part}
+use Rattle.octets.specs.Octets.{numberOf, part, AllBytes}
 use Rattle.octets.specs.Words.{wordSize, wordsFrom}
 use Rattle.octets.proofs.Tests.{both}
-use Rattle.octets.proofs.Passed.{AllBytes, length-words, words-append, own-words, put-first}
+use Rattle.octets.proofs.Passed.{length-words, words-append, own-words, put-first}
 use Rattle.record.specs.Legal.{maxSets, inRange}
 use Rattle.replies.specs.declared.Reply.{Reply}
 use Rattle.replies.specs.Answers.{Answer, Replied}

@@ -11,6 +11,7 @@ use card::answering::command;
 use card::media::Media;
 use card::media::event;
 use card::media::ticks;
+use card::setting::BODY;
 use card::setting::set_up;
 use octets::words::words_in;
 use octets::words::words_out;
@@ -21,11 +22,9 @@ use table::rows::HEADER;
 use table::rows::ROW;
 
 // The words of 31 sets, and of 8: a small card is not to pay for a large one's room.
-const MOST: usize = 745;
+const MOST: usize = HEADER + MAX_SETS * ROW;
 
-const FEW: usize = 193;
-
-const BODY: usize = 84;
+const FEW: usize = HEADER + 8 * ROW;
 
 // What the media layer and the clock report.
 pub(crate) enum Report {

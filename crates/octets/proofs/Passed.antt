@@ -8,7 +8,7 @@ use native.Mathlib.Numerals.{add-one}
 use lib.Dec.{lit<}
 use lib.ListN.{length, getD, set, take, drop, length-take, length-drop}
 use lib.Seq.{sets, length-sets, drop-cons, drop-length, drop-drop, getD-drop}
-use Rattle.octets.specs.Octets.{bytesOf, numberOf, part}
+use Rattle.octets.specs.Octets.{bytesOf, numberOf, part, AllBytes}
 use Rattle.octets.specs.Words.{wordSize, wordsFrom, putWords}
 use Rattle.octets.proofs.Runs.{sets-self, drop-sets}
 use Rattle.octets.proofs.Laws.{length-bytes}
@@ -32,10 +32,6 @@ pub out-end : (bytes words : List ℕ) (at i : ℕ) → i ≡ length words → p
 out-end bytes words at i e = rw (e, drop-length)
 
 -- ---- bytes that are read as words, and put back
-
--- each element of a list is a byte
-abbrev pub AllBytes : List ℕ → Type 0
-AllBytes l = (i : ℕ) → getD l i 0 < 256
 
 pub tail-bytes : (b : ℕ) (bs : List ℕ) → AllBytes (b ∷ bs) → AllBytes bs
 tail-bytes b bs each i = each (suc i)

@@ -1,6 +1,6 @@
 -- Numbers as bytes, and parts of a list of them.
 use mathlib.Core.List.{List, [], _∷_}
-use Prim.Native.Nat.{ℕ, zero, suc, _+_, _*_, _/_, _%_}
+use Prim.Native.Nat.{ℕ, zero, suc, _+_, _*_, _/_, _%_, _<_}
 use lib.ListN.{getD, take, drop}
 
 -- 01: "All numbers little-endian." The lowest `width` bytes of a number, lowest first.
@@ -12,6 +12,10 @@ bytesOf (suc width) v = v % 256 ∷ bytesOf width (v / 256)
 abbrev pub numberOf : List ℕ → ℕ
 numberOf [] = 0
 numberOf (b ∷ bs) = numberOf bs * 256 + b
+
+-- each element of a list is a byte, as in any lent slice of them
+abbrev pub AllBytes : List ℕ → Type 0
+AllBytes l = (i : ℕ) → getD l i 0 < 256
 
 -- n elements of a list from place `at`, as many as there are
 abbrev pub part : List ℕ → ℕ → ℕ → List ℕ

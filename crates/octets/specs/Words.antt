@@ -1,4 +1,4 @@
--- Words of 64 bits as their little-endian bytes, one after another.
+-- Words of 64 bits as bytes, one after another: 01, "its words' little-endian bytes".
 use mathlib.Core.List.{List, [], _∷_}
 use Prim.Native.Nat.{ℕ, zero, suc, _+_}
 use lib.Seq.{sets}

@@ -7,7 +7,11 @@ use crate::output::emit;
 use crate::output::flush;
 use crate::sets;
 use crate::sets::read_sets;
+use card::setting::BODY;
 use card::setting::set_up;
+use record::legal::MAX_SETS;
+use table::rows::HEADER;
+use table::rows::ROW;
 use tape::Next;
 use tape::items::body_size;
 use tape::items::next_item;
@@ -18,7 +22,7 @@ use tape::lines::end_line;
 use tape::lines::sets_line;
 
 // The words of 31 sets.
-const WORDS: usize = 745;
+const WORDS: usize = HEADER + MAX_SETS * ROW;
 
 struct Progress {
     // items done
@@ -117,7 +121,7 @@ fn given(count: u64) -> usize
     ensures { λ r. ⌜ r ≤ 2688 ⌝ }
 {
     if count < sets::MOST {
-        count as usize * sets::BODY
+        count as usize * BODY
     } else {
         sets::BODIES
     }

@@ -1,15 +1,14 @@
 // The sets at the start of a tape.
 use crate::feed;
 use crate::feed::Place;
+use card::setting::BODY;
 use tape::Next;
 use tape::items::next_set;
 
 // One body more than a card can have sets: from there on set-up refuses, however many follow.
 pub const MOST: u64 = 32;
 
-pub const BODY: usize = 84;
-
-pub const BODIES: usize = 2688;
+pub const BODIES: usize = 32 * BODY;
 
 pub struct Sets {
     // whole bodies

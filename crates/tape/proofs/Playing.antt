@@ -14,11 +14,12 @@ use Rattle.octets.proofs.Tests.{both}
 use Rattle.pages.specs.Numbers.{numberAt}
 use Rattle.replies.specs.declared.Reply.{Reply}
 use Rattle.replies.specs.Answers.{Answer, cut, Replied}
+use Rattle.card.specs.Commands.{commandSize}
 use Rattle.card.specs.Items.{Item, reads, writes, excursion, tick, command}
 use Rattle.card.specs.Words.{stepWords, Stepped, Answered}
 use Rattle.card.proofs.Plain.{Plain}
 use Rattle.tape.specs.Text.{itemLine, Put}
-use Rattle.tape.specs.Tape.{bodySizes, bodySize, attributesKind, attributesSize, answerSize, commandSize, mediaItem, itemBy, isItem, itemIn, Played, nextBody, nextSet, nextItem}
+use Rattle.tape.specs.Tape.{bodySizes, bodySize, attributesKind, attributesSize, answerSize, mediaItem, itemBy, isItem, itemIn, Played, nextBody, nextSet, nextItem}
 use Rattle.tape.specs.declared.Next.{Next}
 use Rattle.tape.specs.declared.Next.the-variants.{Over, Bad}
 

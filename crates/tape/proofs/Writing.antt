@@ -11,13 +11,8 @@ use borrow.Author.Tests.{lt-ltb, le-ltb}
 use lib.Dec.{lit<}
 use lib.ListN.{length, length-append, getD, set, drop}
 use lib.Seq.{sets, drop-cons, drop-length}
-use Rattle.octets.proofs.Runs.{set-sets}
+use Rattle.octets.proofs.Runs.{set-sets, sets-join}
 use Rattle.tape.specs.Text.{digitOf, digitsOf, hexOf, placesBelow, places, dataHex, dataText, Put}
-
--- a piece after a piece
-pub join : (xs ys l : List ℕ) (b : ℕ) → sets (sets l b xs) (b + length xs) ys ≡ sets l b (xs ++ ys)
-join [] ys l b = ap (λ (k : ℕ). sets l k ys) (omega arith)
-join (x ∷ xs) ys l b = ap (λ (k : ℕ). sets (sets (set l b x) (suc b) xs) k ys) (omega arith) ∙ join xs ys (set l b x) (suc b)
 
 pub length-digits : (base w v : ℕ) → length (digitsOf base w v) ≡ w
 length-digits base zero v = refl
@@ -35,7 +30,7 @@ digits-turn l at base (suc k) v h =
     rw e
     (set-sets xs l at (at + k) d (inr (omega arith))
     ∙ ap (λ (n : ℕ). set (sets l at xs) (at + n) d) (sym long)
-    ∙ join xs (d ∷ []) l at)
+    ∙ sets-join xs (d ∷ []) l at)
 
 pub digits-end : (l : List ℕ) (at base left v : ℕ) → left ≤ 0 → sets l at (digitsOf base left v) ≡ l
 digits-end l at base zero v h = refl
@@ -98,7 +93,7 @@ text-end l text before at i e h = record { bytes = rw (e, drop-length) at h; pla
 pub then : (l m n xs ys : List ℕ) (a b c : ℕ) → Put l a xs m b → Put m b ys n c → Put l a (xs ++ ys) n c
 then l m n xs ys a b c p q =
     record {
-      bytes = q .bytes ∙ ap₂ (λ (x : List ℕ) (k : ℕ). sets x k ys) (p .bytes) (p .place) ∙ join xs ys l a;
+      bytes = q .bytes ∙ ap₂ (λ (x : List ℕ) (k : ℕ). sets x k ys) (p .bytes) (p .place) ∙ sets-join xs ys l a;
       place = q .place ∙ omega (arith, p .place, length-append xs ys);
     }
 
@@ -108,7 +103,7 @@ pub data-turn : (l bytes : List ℕ) (to i : ℕ) → i < length bytes
     → sets (sets l to (hexOf 2 (getD bytes i 0))) (to + 2) (dataHex (drop (i + 1) bytes)) ≡ sets l to (dataHex (drop i bytes))
 data-turn l bytes to i h =
     let xs = hexOf 2 (getD bytes i 0) in
-    rw (drop-cons bytes i 0 h, add-one) (join xs (dataHex (drop (suc i) bytes)) l to)
+    rw (drop-cons bytes i 0 h, add-one) (sets-join xs (dataHex (drop (suc i) bytes)) l to)
 
 pub data-end : (l bytes : List ℕ) (to i : ℕ) → i ≡ length bytes → sets l to (dataHex (drop i bytes)) ≡ l
 data-end l bytes to i e = rw (e, drop-length)

@@ -9,6 +9,8 @@ use lib.ListN.{length, getD, take, drop}
 use lib.Seq.{sets}
 use Rattle.octets.specs.Choice.{if_then_else_}
 use Rattle.pages.specs.Numbers.{numberAt}
+use Rattle.pages.specs.Bodies.{bodySize as setBodySize}
+use Rattle.card.specs.Commands.{commandSize}
 use Rattle.card.specs.Items.{Item, reads, writes, excursion, tick, command}
 use Rattle.card.specs.Words.{stepWords}
 use Rattle.tape.specs.Text.{itemLine}
@@ -38,20 +40,16 @@ abbrev pub attributesKind : ℕ
 attributesKind = 7
 
 abbrev pub attributesSize : ℕ
-attributesSize = 84
+attributesSize = setBodySize
 
 -- "The answer buffer has 4,096 bytes."
 abbrev pub answerSize : ℕ
 answerSize = 4096
 
--- a command's own bytes; what follows them is its data
-abbrev pub commandSize : ℕ
-commandSize = 64
-
 abbrev pub mediaItem : ℕ → ℕ → ℕ → Item
 mediaItem kind set count = if eqb kind readsKind then reads set count else if eqb kind writesKind then writes set count else excursion set
 
--- the item of a kind and a body that is as long as it should be
+-- the item of a kind and a body that is as long as it should be; what follows a command's own bytes is its data
 abbrev pub itemBy : ℕ → List ℕ → Item
 itemBy kind body =
     if ltb kind readsKind then command (take commandSize body) (drop commandSize body) answerSize

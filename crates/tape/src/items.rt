@@ -17,6 +17,7 @@ use card::answering::command;
 use card::media::Media;
 use card::media::event;
 use card::media::ticks;
+use card::setting::BODY;
 use pages::read::short;
 use pages::read::word;
 use record::SetId;
@@ -26,8 +27,6 @@ const KINDS: usize = 7;
 const SIZES: [usize; KINDS] = [0, 64, 576, 4, 4, 2, 4];
 
 const ATTRIBUTES_KIND: u8 = 7;
-
-const ATTRIBUTES_SIZE: usize = 84;
 
 const COMMAND_SIZE: usize = 64;
 
@@ -138,7 +137,7 @@ pub fn next_set(left: &[u8], last: bool) -> Next
         return next_none(last);
     }
     if left[0] == ATTRIBUTES_KIND {
-        next_body(ATTRIBUTES_SIZE, left.len() - 1, last)
+        next_body(BODY, left.len() - 1, last)
     } else {
         Next::Over
     }
