@@ -23,19 +23,24 @@ commandSize = 64
 
 -- dword k of a command
 abbrev pub dwordAt : List ℕ → ℕ → ℕ
-dwordAt bytes k = numberAt (padded bytes 0 commandSize) (4 * k) 4
+dwordAt bytes k = numberAt bytes (4 * k) 4
 
--- the command that bytes say; of a length other than 64 it is told apart, and refused before any field is looked at
-unfoldable pub commandIn : List ℕ → Command
-commandIn bytes =
+-- the dwords of 64 bytes
+abbrev pub dwordsOf : Bool → List ℕ → Command
+dwordsOf whole bytes =
     record {
-      whole = eqb (length bytes) commandSize;
+      whole = whole;
       cdw0 = dwordAt bytes 0;
       cdw10 = dwordAt bytes 10;
       cdw11 = dwordAt bytes 11;
       cdw12 = dwordAt bytes 12;
       cdw13 = dwordAt bytes 13;
     }
+
+-- the command that bytes say; one of a length other than 64 is told apart, and refused before any field is looked at: it is read
+-- as if cut or filled up with zeros
+unfoldable pub commandIn : List ℕ → Command
+commandIn bytes = dwordsOf (eqb (length bytes) commandSize) (padded bytes 0 commandSize)
 
 -- bits hi:lo of a dword
 abbrev pub bits : ℕ → ℕ → ℕ → ℕ

@@ -1,6 +1,8 @@
 // What a command's 64 bytes say.
 ghost use mathlib.Core.Path.{_≡_};
-ghost use Rattle.card.specs.Commands.{commandIn, opcode, isLog, isIdentify, isSet, isGet, chosen, save, select, featureSet, enable, windowValue, causeBy, windowCause, retain, dwords, logSet, offset, asked, kindBy, kindOf, needsIn, needsOut, logSize};
+ghost use Prim.Native.Nat.{_≤_};
+ghost use lib.ListN.{length};
+ghost use Rattle.card.specs.Commands.{commandSize, dwordsOf, commandIn, opcode, isLog, isIdentify, isSet, isGet, chosen, save, select, featureSet, enable, windowValue, causeBy, windowCause, retain, dwords, logSet, offset, asked, kindBy, kindOf, needsIn, needsOut, logSize};
 use pages::read::word;
 use rules::Cause;
 
@@ -27,18 +29,15 @@ pub enum Kind {
 
 const SIZE: usize = 64;
 
-// A command of another length is read as if cut or filled up to 64 bytes, so that no test that is made of it can fail.
-pub(crate) fn command_in(bytes: &[u8]) -> Command
-    ensures { λ r. ⌜ r ≡ commandIn (now (bytes .entry)) ⌝ }
+fn dwords_in(b: &[u8], whole: bool) -> Command
+    requires { ⌜ commandSize ≤ length (now b) ⌝ }
+    ensures { λ r. ⌜ r ≡ dwordsOf whole (now (b .entry)) ⌝ }
 {
-    let whole = bytes.len() == SIZE;
-    let mut b = [0u8; SIZE];
-    octets::copy_part(bytes, 0, SIZE, &mut b);
-    let cdw0 = word(&b, 0);
-    let cdw10 = word(&b, 40);
-    let cdw11 = word(&b, 44);
-    let cdw12 = word(&b, 48);
-    let cdw13 = word(&b, 52);
+    let cdw0 = word(b, 0);
+    let cdw10 = word(b, 40);
+    let cdw11 = word(b, 44);
+    let cdw12 = word(b, 48);
+    let cdw13 = word(b, 52);
     Command {
         whole,
         cdw0,
@@ -47,6 +46,19 @@ pub(crate) fn command_in(bytes: &[u8]) -> Command
         cdw12,
         cdw13,
     }
+}
+
+// A command of 64 bytes is read where it lies. One of another length is read as if cut or filled up to 64 bytes, so that no
+// test that is made of it can fail.
+pub(crate) fn command_in(bytes: &[u8]) -> Command
+    ensures { λ r. ⌜ r ≡ commandIn (now (bytes .entry)) ⌝ }
+{
+    if bytes.len() == SIZE {
+        return dwords_in(bytes, true);
+    }
+    let mut b = [0u8; SIZE];
+    octets::copy_part(bytes, 0, SIZE, &mut b);
+    dwords_in(&b, false)
 }
 
 fn opcode_of(c: Command) -> u32

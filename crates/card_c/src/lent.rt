@@ -13,6 +13,7 @@ use card::media::event;
 use card::media::ticks;
 use card::setting::BODY;
 use card::setting::set_up;
+use octets::words::word_at;
 use octets::words::words_in;
 use octets::words::words_out;
 use record::SetId;
@@ -46,7 +47,7 @@ fn table_words(region: &[u8]) -> usize
     if room == 0 {
         return 0;
     }
-    let n = octets::get(region, 0, 8);
+    let n = word_at(region, 0);
     table::extent(wide(n), room)
 }
 
@@ -69,43 +70,23 @@ fn put_back(words: &[u64], region: &mut [u8], status: u16)
     }
 }
 
-fn note_on(region: &mut [u8], words: &mut [u64], r: Report) -> u16
-    requires { ⌜ length (now words) * wordSize ≤ length (now region) ⌝ }
-    ensures { λ x. ⌜ EventOn (now (region .entry)) (length (now (words .entry))) (itemBy r) (now (region .exit)) x ⌝ }
-{
-    words_in(region, words);
-    let status = report_to(words, r);
-    put_back(words, region, status);
-    status
-}
-
 pub(crate) fn note(region: &mut [u8], r: Report) -> u16
     ensures { λ x. ⌜ EventAtC (now (region .entry)) (itemBy r) (now (region .exit)) x ⌝ }
 {
     let n = table_words(region);
     if n <= FEW {
         let mut words = [0u64; FEW];
-        note_on(region, &mut words[0..n], r)
+        words_in(region, &mut words[0..n]);
+        let status = report_to(&mut words[0..n], r);
+        put_back(&words[0..n], region, status);
+        status
     } else {
         let mut words = [0u64; MOST];
-        note_on(region, &mut words[0..n], r)
+        words_in(region, &mut words[0..n]);
+        let status = report_to(&mut words[0..n], r);
+        put_back(&words[0..n], region, status);
+        status
     }
-}
-
-fn answer_on(
-    region: &mut [u8],
-    words: &mut [u64],
-    bytes: &[u8],
-    given: &[u8],
-    answer: &mut [u8],
-) -> Reply
-    requires { ⌜ length (now words) * wordSize ≤ length (now region) ⌝ }
-    ensures { λ r. ⌜ AnswerOn (now (region .entry)) (length (now (words .entry))) (Item.command (now (bytes .entry)) (now (given .entry)) (length (now (answer .entry)))) (now (answer .entry)) r (now (region .exit)) (now (answer .exit)) ⌝ }
-{
-    words_in(region, words);
-    let reply = command(words, bytes, given, answer);
-    put_back(words, region, reply.status);
-    reply
 }
 
 pub(crate) fn answer_lent(region: &mut [u8], bytes: &[u8], given: &[u8], answer: &mut [u8]) -> Reply
@@ -114,10 +95,16 @@ pub(crate) fn answer_lent(region: &mut [u8], bytes: &[u8], given: &[u8], answer:
     let n = table_words(region);
     if n <= FEW {
         let mut words = [0u64; FEW];
-        answer_on(region, &mut words[0..n], bytes, given, answer)
+        words_in(region, &mut words[0..n]);
+        let reply = command(&mut words[0..n], bytes, given, answer);
+        put_back(&words[0..n], region, reply.status);
+        reply
     } else {
         let mut words = [0u64; MOST];
-        answer_on(region, &mut words[0..n], bytes, given, answer)
+        words_in(region, &mut words[0..n]);
+        let reply = command(&mut words[0..n], bytes, given, answer);
+        put_back(&words[0..n], region, reply.status);
+        reply
     }
 }
 

@@ -13,6 +13,47 @@ use Rattle.octets.specs.Words.{wordSize, wordsFrom, putWords}
 use Rattle.octets.proofs.Runs.{sets-self, drop-sets}
 use Rattle.octets.proofs.Laws.{length-bytes}
 
+-- a part, its first element apart
+part-cons : (l : List ℕ) (at n : ℕ) → at < length l → part l at (suc n) ≡ getD l at 0 ∷ part l (at + 1) n
+part-cons l at n h = rw (drop-cons l at 0 h, add-one)
+
+-- a word as the sum of its bytes
+pub word-sum :
+    (l : List ℕ) (at : ℕ) → at + wordSize ≤ length l
+    → getD l at 0
+    + getD l (at + 1) 0 * 0x100
+    + getD l (at + 2) 0 * 0x10000
+    + getD l (at + 3) 0 * 0x1000000
+    + getD l (at + 4) 0 * 0x100000000
+    + getD l (at + 5) 0 * 0x10000000000
+    + getD l (at + 6) 0 * 0x1000000000000
+    + getD l (at + 7) 0 * 0x100000000000000
+    ≡ numberOf (part l at wordSize)
+word-sum l at room =
+    let e2 : at + 1 + 1 ≡ at + 2 = omega arith in
+    let e3 : at + 2 + 1 ≡ at + 3 = omega arith in
+    let e4 : at + 3 + 1 ≡ at + 4 = omega arith in
+    let e5 : at + 4 + 1 ≡ at + 5 = omega arith in
+    let e6 : at + 5 + 1 ≡ at + 6 = omega arith in
+    let e7 : at + 6 + 1 ≡ at + 7 = omega arith in
+    rw (
+      part-cons l at 7 (omega arith),
+      part-cons l (at + 1) 6 (omega arith),
+      e2,
+      part-cons l (at + 2) 5 (omega arith),
+      e3,
+      part-cons l (at + 3) 4 (omega arith),
+      e4,
+      part-cons l (at + 4) 3 (omega arith),
+      e5,
+      part-cons l (at + 5) 2 (omega arith),
+      e6,
+      part-cons l (at + 6) 1 (omega arith),
+      e7,
+      part-cons l (at + 7) 0 (omega arith),
+    )
+    (omega arith)
+
 pub length-words : (bytes : List ℕ) (at n : ℕ) → length (wordsFrom bytes at n) ≡ n
 length-words bytes at zero = refl
 length-words bytes at (suc n) = ap suc (length-words bytes (at + wordSize) n)

@@ -26,7 +26,7 @@ pub fn put(buf: &mut [u8], at: usize, width: usize, v: u64)
     }
 }
 
-fn wide(b: u8) -> u64
+pub(crate) fn wide(b: u8) -> u64
     ensures { λ r. ⌜ (r ≡ b) × (r < 256) ⌝ }
 {
     b as u64

@@ -1,8 +1,25 @@
 // Words as their little-endian bytes, one after another.
 ghost use mathlib.Core.Path.{_≡_};
-ghost use Prim.Native.Nat.{_*_, _≤_};
+ghost use Prim.Native.Nat.{_+_, _*_, _≤_};
 ghost use lib.ListN.{length};
+ghost use Rattle.octets.specs.Octets.{numberOf, part};
 ghost use Rattle.octets.specs.Words.{wordSize, wordsFrom, putWords};
+use crate::wide;
+
+// The word at a place, as one sum of its bytes: the compiler reads it with one load.
+pub fn word_at(bytes: &[u8], at: usize) -> u64
+    requires { ⌜ at + wordSize ≤ length (now bytes) ⌝ }
+    ensures { λ r. ⌜ r ≡ numberOf (part (now (bytes .entry)) at wordSize) ⌝ }
+{
+    wide(bytes[at])
+        + wide(bytes[at + 1]) * 0x100
+        + wide(bytes[at + 2]) * 0x10000
+        + wide(bytes[at + 3]) * 0x1000000
+        + wide(bytes[at + 4]) * 0x100000000
+        + wide(bytes[at + 5]) * 0x10000000000
+        + wide(bytes[at + 6]) * 0x1000000000000
+        + wide(bytes[at + 7]) * 0x100000000000000
+}
 
 // The first words of the bytes, as many as are lent.
 pub fn words_in(bytes: &[u8], words: &mut [u64])
@@ -12,7 +29,7 @@ pub fn words_in(bytes: &[u8], words: &mut [u64])
     let mut at = 0;
     let mut i = 0;
     while i < words.len() {
-        words[i] = crate::get(bytes, at, 8);
+        words[i] = word_at(bytes, at);
         at += 8;
         i += 1;
     }

@@ -6,6 +6,7 @@ ghost use Rattle.pages.specs.Bodies.{bodySize, body, capacityIn, attribu
 use crate::filled::filled_84;
 use crate::read::short;
 use crate::read::word;
+use octets::words::word_at;
 use record::Attributes;
 use record::Capacity;
 use record::Group;
@@ -15,8 +16,8 @@ fn capacity_in(bytes: &[u8], at: usize) -> Capacity
     requires { ⌜ at + 16 ≤ length (now bytes) ⌝ }
     ensures { λ r. ⌜ r ≡ capacityIn (now (bytes .entry)) at ⌝ }
 {
-    let low = octets::get(bytes, at, 8);
-    let high = octets::get(bytes, at + 8, 8);
+    let low = word_at(bytes, at);
+    let high = word_at(bytes, at + 8);
     Capacity {
         low: low,
         high: high,
@@ -33,11 +34,11 @@ pub fn attributes_in(bytes: &[u8], at: usize) -> Attributes
     let optimal_write_size = word(bytes, at + 8);
     let total = capacity_in(bytes, at + 12);
     let unallocated = capacity_in(bytes, at + 28);
-    let reads_typical = octets::get(bytes, at + 44, 8);
-    let writes_typical = octets::get(bytes, at + 52, 8);
-    let time_maximum = octets::get(bytes, at + 60, 8);
-    let minimum_high = octets::get(bytes, at + 68, 8);
-    let minimum_low = octets::get(bytes, at + 76, 8);
+    let reads_typical = word_at(bytes, at + 44);
+    let writes_typical = word_at(bytes, at + 52);
+    let time_maximum = word_at(bytes, at + 60);
+    let minimum_high = word_at(bytes, at + 68);
+    let minimum_low = word_at(bytes, at + 76);
     Attributes {
         id: SetId(id),
         group: Group(group),

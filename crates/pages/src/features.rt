@@ -4,6 +4,7 @@ ghost use Prim.Native.Nat.{_≤_};
 ghost use lib.ListN.{length};
 ghost use Rattle.pages.specs.Features.{featureSize, configPage, configIn};
 use crate::filled::filled_512;
+use octets::words::word_at;
 use record::Config;
 use record::Thresholds;
 use record::notices::bits_of;
@@ -29,9 +30,9 @@ pub fn config_in(bytes: &[u8]) -> Config
 {
     let bits = octets::get(bytes, 0, 2);
     let enabled = events_in(bits);
-    let reads = octets::get(bytes, 32, 8);
-    let writes = octets::get(bytes, 40, 8);
-    let time = octets::get(bytes, 48, 8);
+    let reads = word_at(bytes, 32);
+    let writes = word_at(bytes, 40);
+    let time = word_at(bytes, 48);
     Config {
         enabled: enabled,
         thresholds: Thresholds {

@@ -98,8 +98,13 @@ pub fn record_legal(r: Record) -> bool
     let a = r.attributes;
     let s = r.state;
     let n = r.notes;
-    let x = attributes_legal(a);
-    let y = state_legal(a, s);
-    let z = notes_legal(n);
-    x & y & z
+    if attributes_legal(a) {
+        if state_legal(a, s) {
+            notes_legal(n)
+        } else {
+            false
+        }
+    } else {
+        false
+    }
 }

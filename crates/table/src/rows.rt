@@ -180,9 +180,11 @@ pub fn legal_row(a: [u64; ROW]) -> bool
 {
     let r = record_of(a);
     let b = words_of(r);
-    let same = same_words(&a, &b);
-    let legal = record_legal(r);
-    same & legal
+    if same_words(&a, &b) {
+        record_legal(r)
+    } else {
+        false
+    }
 }
 
 pub fn id_in(a: [u64; ROW]) -> u64
@@ -195,7 +197,9 @@ pub fn id_in(a: [u64; ROW]) -> u64
 pub fn follows(before: u64, a: [u64; ROW]) -> bool
     ensures { λ r. ⌜ r ≡ legalAfter before a ⌝ }
 {
-    let legal = legal_row(a);
-    let id = id_in(a);
-    legal & (before < id)
+    if legal_row(a) {
+        before < id_in(a)
+    } else {
+        false
+    }
 }

@@ -1,36 +1,38 @@
-use mathlib.Core.Path.{_∙_}
+use mathlib.Core.Path.{sym, ap₂, _∙_}
+use native.Mathlib.Omega.{arith}
 use borrow.Author.Needs.{needs}
-use lib.ListN.{replicate}
+use borrow.Author.Tests.{eq-eqb, ne-eqb}
+use lib.ListN.{length, replicate}
 use Rattle.octets.specs.Octets.{padded}
-use Rattle.octets.proofs.Runs.{sets-whole}
+use Rattle.octets.proofs.Runs.{sets-whole, padded-rest}
 use Rattle.replies.proofs.Answering.{length-padded}
-use Rattle.card.specs.Commands.{commandSize, commandIn}
+use Rattle.card.specs.Commands.{commandSize, dwordsOf, commandIn}
 use Rattle.card.proofs.commands.command_in.Statement.{statement}
 use Rattle.card.proofs.commands.command_in.Tie as tie
 
 returns : tie.Need-returns
 unfolding commandIn
 returns c =
-    let w = c .before .before .before .before .before .before .before .before in
-    let p = w .before .before .before in
-    let b = p .before .before .before .args .bytes .now in
+    let b = c .before .before .before .args .bytes .now in
+    let e = eq-eqb (length b) commandSize (c .before .if1 .taken) in
+    c .dwords-in .ensures ∙ ap₂ dwordsOf (sym e) (sym (padded-rest b 0 commandSize (omega arith)))
+
+returns-2 : tie.Need-returns-2
+unfolding commandIn
+returns-2 c =
+    let p = c .before .before .before in
+    let b = p .before .before .before .before .args .bytes .now in
     let e = p .copy-part .ensures ∙ sets-whole (padded b 0 commandSize) (replicate commandSize 0) (length-padded b 0 commandSize) in
-    simp (c .word5 .ensures, c .before .before .word4 .ensures, c .before .before .before .before .word3 .ensures, c .before .before .before .before .before .before .word2 .ensures, w .word .ensures, e)
+    c .dwords-in2 .ensures ∙ ap₂ dwordsOf (sym (ne-eqb (length b) commandSize (p .before .before .if1 .left))) e
 
 pub command-in-spec : {M : Type 1} → statement M
 command-in-spec =
     tie.close
     (tie.spec
+    (λ c κs. search needs)
+    returns
     (λ c. search needs)
     (λ c κs. search needs)
     (λ c. search needs)
     (λ c κs. search needs)
-    (λ c. search needs)
-    (λ c κs. search needs)
-    (λ c. search needs)
-    (λ c κs. search needs)
-    (λ c. search needs)
-    (λ c κs. search needs)
-    (λ c. search needs)
-    (λ c κs. search needs)
-    returns)
+    returns-2)

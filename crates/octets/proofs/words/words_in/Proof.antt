@@ -40,7 +40,7 @@ words-in-spec =
       search needs,
       search needs,
       search needs,
-      rw (c .get .ensures) (in-turn (l .words) (s .args .bytes .now) (l .at) (l .i) (length (s .args .words .now)) (search needs) ∙ l .inv .3),
+      rw (c .word-at .ensures) (in-turn (l .words) (s .args .bytes .now) (l .at) (l .i) (length (s .args .words .now)) (search needs) ∙ l .inv .3),
     ))
     (λ c. search needs)
     (λ c.

@@ -8,4 +8,5 @@ follows-spec =
     (tie.spec
     (λ c κs. search needs)
     (λ c κs. search needs)
-    (λ c. simp (c .id-in .ensures, c .before .legal-row .ensures)))
+    (λ c. let l = c .before in rw (← l .before .legal-row .ensures, l .if1 .taken, c .id-in .ensures))
+    (λ c. rw (← c .before .legal-row .ensures, c .if1 .left)))
