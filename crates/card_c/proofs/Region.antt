@@ -29,7 +29,7 @@ use Rattle.card.proofs.Exact.{exactly-words, set-up-refused, set-up-exactly}
 use Rattle.card.proofs.Past.{beside, step-unsized, step-past, length-step, set-up-past, length-set-up}
 use Rattle.card_c.specs.Entries.{tableIn, tableOut, EventAtC, SetUpAtC, replyPart, CommandAtC}
 use Rattle.card_c.specs.declared.lent.Report.{Report}
-use Rattle.card_c.specs.Lent.{itemBy, backBy, Extent, EventOn, SetUpOn, AnswerOn, AnswerAtC}
+use Rattle.card_c.specs.Lent.{itemBy, TakenOut, backBy, Extent, AnswerAtC}
 
 -- ---- how many words are a table's
 
@@ -130,22 +130,91 @@ module _ (region : List ℕ) (each : AllBytes region) (i : Item) where
   same : (n : ℕ) → Extent region n → Same region (wordsFrom region 0 n) (tableIn region) i
   same n x = by-room (sized (tableIn region)) refl n (x .words)
 
--- ---- what the functions inside promise of n words is what the public ones promise of the region
+-- ---- words taken out, worked on and put back, or left where nothing was done
 
--- m is how long the lent part of a local is
+-- the step, set-up and a command on the first n words
+record EventOn (region : List ℕ) (n : ℕ) (i : Item) (after : List ℕ) (number : ℕ) : Type 0 where
+  table : after ≡ tableOut region (stepWords (wordsFrom region 0 n) i .table)
+  status : number ≡ stepWords (wordsFrom region 0 n) i .answer .status
+
+record AnswerOn (region : List ℕ) (n : ℕ) (i : Item) (before : List ℕ) (r : Reply) (after buffer : List ℕ) : Type 0 where
+  table : after ≡ tableOut region (stepWords (wordsFrom region 0 n) i .table)
+  reply : Replied (stepWords (wordsFrom region 0 n) i .answer) before r buffer
+
+record SetUpOn (bodies region : List ℕ) (n : ℕ) (after : List ℕ) (number : ℕ) : Type 0 where
+  table : after ≡ tableOut region (setUp bodies (wordsFrom region 0 n) .table)
+  status : number ≡ setUp bodies (wordsFrom region 0 n) .answer .status
+
+-- the first words of a region are its own
+own-first : (region : List ℕ) (n : ℕ) → AllBytes region → n * wordSize ≤ length region → tableOut region (wordsFrom region 0 n) ≡ region
+own-first region n each h = own-words n 0 region region each refl (omega arith)
+
+-- a result with its status, put back by that status
+back :
+    (region : List ℕ) (n : ℕ) (status : ℕ) (t words after : List ℕ) → AllBytes region → n * wordSize ≤ length region
+    → words ≡ t → ((status ≡ 0 → ⊥) → t ≡ wordsFrom region 0 n) → after ≡ backBy status region words → after ≡ tableOut region t
+back region n status t words after each h e same p =
+    ⊎-elim
+    (λ z. (rw z at p) ∙ ap (tableOut region) e)
+    (λ z. (rw z at p) ∙ sym (ap (tableOut region) (same (eqb-false status 0 z)) ∙ own-first region n each h))
+    (bool-cases (eqb status 0))
+
+step-same : (ws : List ℕ) (i : Item) (status : ℕ) → status ≡ stepWords ws i .answer .status → (status ≡ 0 → ⊥) → stepWords ws i .table ≡ ws
+step-same ws i status e n = ap (λ (x : Result). x .table) (refused-words ws i (λ z. n (e ∙ exactly-words ws i ∙ z)))
+
+event-on :
+    (region : List ℕ) (n : ℕ) (i : Item) (before words after : List ℕ) (number : ℕ) → AllBytes region → n * wordSize ≤ length region
+    → before ≡ wordsFrom region 0 n → Stepped before i words number → after ≡ backBy number region words → EventOn region n i after number
+event-on region n i before words after number each h e s p =
+    let ws = wordsFrom region 0 n in
+    let t : words ≡ stepWords ws i .table = s .table ∙ ap (λ (x : List ℕ). stepWords x i .table) e in
+    let q : number ≡ stepWords ws i .answer .status = s .status ∙ ap (λ (x : List ℕ). stepWords x i .answer .status) e in
+    record { table = back region n number (stepWords ws i .table) words after each h t (step-same ws i number q) p; status = q }
+
+answer-on :
+    (region : List ℕ) (n : ℕ) (i : Item) (buffer : List ℕ) (r : Reply) (before words after handed : List ℕ) → AllBytes region → n * wordSize ≤ length region
+    → before ≡ wordsFrom region 0 n → Answered before i buffer r words handed → after ≡ backBy (r .status) region words → AnswerOn region n i buffer r after handed
+answer-on region n i buffer r before words after handed each h e a p =
+    let ws = wordsFrom region 0 n in
+    let t : words ≡ stepWords ws i .table = a .table ∙ ap (λ (x : List ℕ). stepWords x i .table) e in
+    let q : Replied (stepWords ws i .answer) buffer r handed = subst (λ (x : List ℕ). Replied (stepWords x i .answer) buffer r handed) e (a .reply) in
+    record { table = back region n (r .status) (stepWords ws i .table) words after each h t (step-same ws i (r .status) (q .status)) p; reply = q }
+
+set-up-same : (bytes ws : List ℕ) (status : ℕ) → status ≡ setUp bytes ws .answer .status → (status ≡ 0 → ⊥) → setUp bytes ws .table ≡ ws
+set-up-same bytes ws status e n = ap (λ (x : Result). x .table) (set-up-refused bytes ws (λ z. n (e ∙ set-up-exactly bytes ws ∙ z)))
+
+set-up-on :
+    (bytes region : List ℕ) (n : ℕ) (before words after : List ℕ) (number : ℕ) → AllBytes region → n * wordSize ≤ length region
+    → before ≡ wordsFrom region 0 n → SetUp bytes before words number → after ≡ backBy number region words → SetUpOn bytes region n after number
+set-up-on bytes region n before words after number each h e s p =
+    let ws = wordsFrom region 0 n in
+    let t : words ≡ setUp bytes ws .table = s .table ∙ ap (λ (x : List ℕ). setUp bytes x .table) e in
+    let q : number ≡ setUp bytes ws .answer .status = s .status ∙ ap (λ (x : List ℕ). setUp bytes x .answer .status) e in
+    record { table = back region n number (setUp bytes ws .table) words after each h t (set-up-same bytes ws number q) p; status = q }
+
+-- ---- what is done to the first n words is what the public functions promise of the region
+
+-- `lent` is the part of a local that the words are taken into
 pub event-at :
-    (region : List ℕ) (n m : ℕ) (i : Item) (after : List ℕ) (number : ℕ)
-    → AllBytes region → Extent region n → EventOn region m i after number → m ≡ n → EventAtC region i after number
-event-at region n m i after number each x on e =
-    let s = same region each i m (rw e x) in
+    (region : List ℕ) (n : ℕ) (i : Item) (lent before words after : List ℕ) (number : ℕ)
+    → AllBytes region → Extent region n → TakenOut region lent before → Stepped before i words number → after ≡ backBy number region words → length lent ≡ n
+    → EventAtC region i after number
+event-at region n i lent before words after number each x w step p e =
+    let y : Extent region (length lent) = rw e x in
+    let on = event-on region (length lent) i before words after number each (y .room) (w .all) step p in
+    let s = same region each i (length lent) y in
     record { table = on .table ∙ s .table; status = on .status ∙ ap (λ (a : Answer). a .status) (s .answer) }
 
 pub answer-at :
-    (region : List ℕ) (n m : ℕ) (i : Item) (before : List ℕ) (r : Reply) (after buffer : List ℕ)
-    → AllBytes region → Extent region n → AnswerOn region m i before r after buffer → m ≡ n → AnswerAtC region i before r after buffer
-answer-at region n m i before r after buffer each x on e =
-    let s = same region each i m (rw e x) in
-    record { table = on .table ∙ s .table; reply = subst (λ (a : Answer). Replied a before r buffer) (s .answer) (on .reply) }
+    (region : List ℕ) (n : ℕ) (i : Item) (buffer : List ℕ) (r : Reply) (lent before words after handed : List ℕ)
+    → AllBytes region → Extent region n → TakenOut region lent before → Answered before i buffer r words handed → after ≡ backBy (r .status) region words
+    → length lent ≡ n
+    → AnswerAtC region i buffer r after handed
+answer-at region n i buffer r lent before words after handed each x w step p e =
+    let y : Extent region (length lent) = rw e x in
+    let on = answer-on region (length lent) i buffer r before words after handed each (y .room) (w .all) step p in
+    let s = same region each i (length lent) y in
+    record { table = on .table ∙ s .table; reply = subst (λ (a : Answer). Replied a buffer r handed) (s .answer) (on .reply) }
 
 -- ---- set-up, on no more words than its sets take
 
@@ -169,64 +238,17 @@ set-up-most bytes region n after number fits e each on =
     }
 
 pub set-up-at :
-    (bytes region : List ℕ) (n : ℕ) (after : List ℕ) (number : ℕ)
-    → AllBytes region → SetUpOn bytes region n after number → n ≡ min (length region / wordSize) (rowStart (min (bodies bytes) maxSets))
-    → SetUpAtC bytes region after number
-set-up-at bytes region n after number each on e =
+    (bytes region lent before words after : List ℕ) (number : ℕ)
+    → AllBytes region → TakenOut region lent before → SetUp bytes before words number → after ≡ backBy number region words
+    → length lent ≡ min (length region / wordSize) (rowStart (min (bodies bytes) maxSets)) → SetUpAtC bytes region after number
+set-up-at bytes region lent before words after number each w step p e =
+    let n = length lent in
     let most = rowStart (min (bodies bytes) maxSets) in
+    let on = set-up-on bytes region n before words after number each (omega arith) (w .all) step p in
     ⊎-elim
     (λ h. set-up-all bytes region n after number (omega (arith, leb-true (length region / wordSize) most h)) on)
     (λ h. set-up-most bytes region n after number (omega arith) (λ few. omega (arith, leb-false (length region / wordSize) most h)) each on)
     (bool-cases (leb (length region / wordSize) most))
-
--- ---- words taken out, worked on and put back, or left where nothing was done
-
--- the first words of a region are its own
-own-first : (region : List ℕ) (n : ℕ) → AllBytes region → n * wordSize ≤ length region → tableOut region (wordsFrom region 0 n) ≡ region
-own-first region n each h = own-words n 0 region region each refl (omega arith)
-
--- a result with its status, put back by that status
-back :
-    (region : List ℕ) (n : ℕ) (status : ℕ) (t words after : List ℕ) → AllBytes region → n * wordSize ≤ length region
-    → words ≡ t → ((status ≡ 0 → ⊥) → t ≡ wordsFrom region 0 n) → after ≡ backBy status region words → after ≡ tableOut region t
-back region n status t words after each h e same p =
-    ⊎-elim
-    (λ z. (rw z at p) ∙ ap (tableOut region) e)
-    (λ z. (rw z at p) ∙ sym (ap (tableOut region) (same (eqb-false status 0 z)) ∙ own-first region n each h))
-    (bool-cases (eqb status 0))
-
-step-same : (ws : List ℕ) (i : Item) (status : ℕ) → status ≡ stepWords ws i .answer .status → (status ≡ 0 → ⊥) → stepWords ws i .table ≡ ws
-step-same ws i status e n = ap (λ (x : Result). x .table) (refused-words ws i (λ z. n (e ∙ exactly-words ws i ∙ z)))
-
-pub event-on :
-    (region : List ℕ) (n : ℕ) (i : Item) (before words after : List ℕ) (number : ℕ) → AllBytes region → n * wordSize ≤ length region
-    → before ≡ wordsFrom region 0 n → Stepped before i words number → after ≡ backBy number region words → EventOn region n i after number
-event-on region n i before words after number each h e s p =
-    let ws = wordsFrom region 0 n in
-    let t : words ≡ stepWords ws i .table = s .table ∙ ap (λ (x : List ℕ). stepWords x i .table) e in
-    let q : number ≡ stepWords ws i .answer .status = s .status ∙ ap (λ (x : List ℕ). stepWords x i .answer .status) e in
-    record { table = back region n number (stepWords ws i .table) words after each h t (step-same ws i number q) p; status = q }
-
-pub answer-on :
-    (region : List ℕ) (n : ℕ) (i : Item) (buffer : List ℕ) (r : Reply) (before words after handed : List ℕ) → AllBytes region → n * wordSize ≤ length region
-    → before ≡ wordsFrom region 0 n → Answered before i buffer r words handed → after ≡ backBy (r .status) region words → AnswerOn region n i buffer r after handed
-answer-on region n i buffer r before words after handed each h e a p =
-    let ws = wordsFrom region 0 n in
-    let t : words ≡ stepWords ws i .table = a .table ∙ ap (λ (x : List ℕ). stepWords x i .table) e in
-    let q : Replied (stepWords ws i .answer) buffer r handed = subst (λ (x : List ℕ). Replied (stepWords x i .answer) buffer r handed) e (a .reply) in
-    record { table = back region n (r .status) (stepWords ws i .table) words after each h t (step-same ws i (r .status) (q .status)) p; reply = q }
-
-set-up-same : (bytes ws : List ℕ) (status : ℕ) → status ≡ setUp bytes ws .answer .status → (status ≡ 0 → ⊥) → setUp bytes ws .table ≡ ws
-set-up-same bytes ws status e n = ap (λ (x : Result). x .table) (set-up-refused bytes ws (λ z. n (e ∙ set-up-exactly bytes ws ∙ z)))
-
-pub set-up-on :
-    (bytes region : List ℕ) (n : ℕ) (before words after : List ℕ) (number : ℕ) → AllBytes region → n * wordSize ≤ length region
-    → before ≡ wordsFrom region 0 n → SetUp bytes before words number → after ≡ backBy number region words → SetUpOn bytes region n after number
-set-up-on bytes region n before words after number each h e s p =
-    let ws = wordsFrom region 0 n in
-    let t : words ≡ setUp bytes ws .table = s .table ∙ ap (λ (x : List ℕ). setUp bytes x .table) e in
-    let q : number ≡ setUp bytes ws .answer .status = s .status ∙ ap (λ (x : List ℕ). setUp bytes x .answer .status) e in
-    record { table = back region n number (setUp bytes ws .table) words after each h t (set-up-same bytes ws number q) p; status = q }
 
 pub told : (ws : List ℕ) (r s : Report) (after : List ℕ) (number : ℕ) → r ≡ s → Stepped ws (itemBy s) after number → Stepped ws (itemBy r) after number
 told ws r s after number e h = rw e h

@@ -1,4 +1,4 @@
--- Only for functions inside the crate: the first n words of a region, taken out, worked on and put back.
+-- Only for functions inside the crate: the words of a region, taken out, worked on and put back.
 use mathlib.Core.Path.{_≡_}
 use mathlib.Core.List.{List}
 use Prim.Native.Nat.{ℕ, _*_, _≤_}
@@ -13,7 +13,6 @@ use Rattle.table.specs.Table.{count, rowStart, extentOf}
 use Rattle.card.specs.Items.{Item, tick}
 use Rattle.card.specs.Media.{itemOf}
 use Rattle.card.specs.Words.{stepWords}
-use Rattle.card.specs.SetUp.{setUp}
 use Rattle.card_c.specs.declared.lent.Report.{Report}
 use Rattle.card_c.specs.declared.lent.Report.the-variants.{OfSet, Tick}
 use Rattle.card_c.specs.Entries.{tableIn, tableOut}
@@ -21,6 +20,10 @@ use Rattle.card_c.specs.Entries.{tableIn, tableOut}
 abbrev pub itemBy : Report → Item
 itemBy (OfSet id m) = itemOf id m
 itemBy (Tick t) = tick t
+
+-- the first words of the region, as many as are lent
+pub record TakenOut (region lent words : List ℕ) : Type 0 where
+  pub all : words ≡ wordsFrom region 0 (length lent)
 
 -- the words put back, where the status is that of a success
 abbrev pub backBy : ℕ → List ℕ → List ℕ → List ℕ
@@ -32,20 +35,7 @@ pub record Extent (region : List ℕ) (n : ℕ) : Type 0 where
   pub few : n ≤ rowStart maxSets
   pub room : n * wordSize ≤ length region
 
--- the step, set-up and a command on the first n words
-pub record EventOn (region : List ℕ) (n : ℕ) (i : Item) (after : List ℕ) (number : ℕ) : Type 0 where
-  pub table : after ≡ tableOut region (stepWords (wordsFrom region 0 n) i .table)
-  pub status : number ≡ stepWords (wordsFrom region 0 n) i .answer .status
-
-pub record AnswerOn (region : List ℕ) (n : ℕ) (i : Item) (before : List ℕ) (r : Reply) (after buffer : List ℕ) : Type 0 where
-  pub table : after ≡ tableOut region (stepWords (wordsFrom region 0 n) i .table)
-  pub reply : Replied (stepWords (wordsFrom region 0 n) i .answer) before r buffer
-
--- a command on all of them, with its reply by value
+-- a command on the region's words, with its reply by value
 pub record AnswerAtC (region : List ℕ) (i : Item) (before : List ℕ) (r : Reply) (after buffer : List ℕ) : Type 0 where
   pub table : after ≡ tableOut region (stepWords (tableIn region) i .table)
   pub reply : Replied (stepWords (tableIn region) i .answer) before r buffer
-
-pub record SetUpOn (bodies region : List ℕ) (n : ℕ) (after : List ℕ) (number : ℕ) : Type 0 where
-  pub table : after ≡ tableOut region (setUp bodies (wordsFrom region 0 n) .table)
-  pub status : number ≡ setUp bodies (wordsFrom region 0 n) .answer .status

@@ -6,7 +6,7 @@ ghost use Rattle.octets.specs.Words.{wordSize};
 ghost use Rattle.card.specs.Items.{Item};
 ghost use Rattle.card.specs.Words.{Stepped};
 ghost use Rattle.card_c.specs.Entries.{EventAtC, SetUpAtC};
-ghost use Rattle.card_c.specs.Lent.{Extent, itemBy, backBy, EventOn, SetUpOn, AnswerOn, AnswerAtC};
+ghost use Rattle.card_c.specs.Lent.{Extent, itemBy, TakenOut, backBy, AnswerAtC};
 use card::answering::command;
 use card::media::Media;
 use card::media::event;
@@ -60,6 +60,13 @@ fn report_to(words: &mut [u64], r: Report) -> u16
     }
 }
 
+fn take_out(region: &[u8], words: &mut [u64])
+    requires { ⌜ length (now words) * wordSize ≤ length (now region) ⌝ }
+    ensures { λ _. ⌜ TakenOut (now (region .entry)) (now (words .entry)) (now (words .exit)) ⌝ }
+{
+    words_in(region, words);
+}
+
 // A refused call writes nothing, not even what was there.
 fn put_back(words: &[u64], region: &mut [u8], status: u16)
     requires { ⌜ length (now words) * wordSize ≤ length (now region) ⌝ }
@@ -76,15 +83,17 @@ pub(crate) fn note(region: &mut [u8], r: Report) -> u16
     let n = table_words(region);
     if n <= FEW {
         let mut words = [0u64; FEW];
-        words_in(region, &mut words[0..n]);
-        let status = report_to(&mut words[0..n], r);
-        put_back(&words[0..n], region, status);
+        let part = &mut words[0..n];
+        take_out(region, part);
+        let status = report_to(part, r);
+        put_back(part, region, status);
         status
     } else {
         let mut words = [0u64; MOST];
-        words_in(region, &mut words[0..n]);
-        let status = report_to(&mut words[0..n], r);
-        put_back(&words[0..n], region, status);
+        let part = &mut words[0..n];
+        take_out(region, part);
+        let status = report_to(part, r);
+        put_back(part, region, status);
         status
     }
 }
@@ -95,34 +104,39 @@ pub(crate) fn answer_lent(region: &mut [u8], bytes: &[u8], given: &[u8], answer:
     let n = table_words(region);
     if n <= FEW {
         let mut words = [0u64; FEW];
-        words_in(region, &mut words[0..n]);
-        let reply = command(&mut words[0..n], bytes, given, answer);
-        put_back(&words[0..n], region, reply.status);
+        let part = &mut words[0..n];
+        take_out(region, part);
+        let reply = command(part, bytes, given, answer);
+        put_back(part, region, reply.status);
         reply
     } else {
         let mut words = [0u64; MOST];
-        words_in(region, &mut words[0..n]);
-        let reply = command(&mut words[0..n], bytes, given, answer);
-        put_back(&words[0..n], region, reply.status);
+        let part = &mut words[0..n];
+        take_out(region, part);
+        let reply = command(part, bytes, given, answer);
+        put_back(part, region, reply.status);
         reply
     }
-}
-
-fn set_up_on(region: &mut [u8], words: &mut [u64], bodies: &[u8]) -> u16
-    requires { ⌜ length (now words) * wordSize ≤ length (now region) ⌝ }
-    ensures { λ x. ⌜ SetUpOn (now (bodies .entry)) (now (region .entry)) (length (now (words .entry))) (now (region .exit)) x ⌝ }
-{
-    words_in(region, words);
-    let status = set_up(words, bodies);
-    put_back(words, region, status);
-    status
 }
 
 pub(crate) fn new_table(region: &mut [u8], bodies: &[u8]) -> u16
     ensures { λ x. ⌜ SetUpAtC (now (bodies .entry)) (now (region .entry)) (now (region .exit)) x ⌝ }
 {
-    let mut words = [0u64; MOST];
     let sets = octets::least(bodies.len() / BODY, MAX_SETS);
     let n = octets::least(region.len() / 8, HEADER + sets * ROW);
-    set_up_on(region, &mut words[0..n], bodies)
+    if n <= FEW {
+        let mut words = [0u64; FEW];
+        let part = &mut words[0..n];
+        take_out(region, part);
+        let status = set_up(part, bodies);
+        put_back(part, region, status);
+        status
+    } else {
+        let mut words = [0u64; MOST];
+        let part = &mut words[0..n];
+        take_out(region, part);
+        let status = set_up(part, bodies);
+        put_back(part, region, status);
+        status
+    }
 }

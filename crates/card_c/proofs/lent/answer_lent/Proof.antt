@@ -13,17 +13,27 @@ answer-lent-spec =
     (λ c. search needs)
     (λ c. search needs)
     (λ c κs. search needs)
+    (λ c κs. search needs)
+    (λ c κs. search needs)
     (λ c. search needs)
     (λ c. search needs)
     (λ c. search needs)
     (λ c κs. search needs)
+    (λ c κs. search needs)
+    (λ c κs. search needs)
     (λ c. search needs)
     (λ c. search needs)
     (λ c.
-    let t = c .before .before .before .before .before .before .before .before .before .before in
-    answer-at _ _ _ _ _ _ _ _ (λ (i : ℕ). t .before .before .before .before .before .slice-known .given i .fits) (t .table-words .ensures) (c .before .before .before .before .before .answer-on .ensures) (search needs))
+    let p = c .before .before .before in
+    let r = p .before .before .before .before .before .before .before in
+    let w = r .before .before .before .before .before in
+    let t = w .before .before .before .before .before in
+    answer-at _ _ _ _ _ _ _ _ _ _ (λ (i : ℕ). t .before .before .before .before .before .slice-known .given i .fits) (t .table-words .ensures) (w .take-out .ensures) (r .command .ensures) (p .put-back .ensures) (search needs))
     (λ c. search needs)
     (λ c. search needs)
     (λ c.
-    let t = c .before .before .before .before .before .before .before .before .before .before in
-    answer-at _ _ _ _ _ _ _ _ (λ (i : ℕ). t .before .before .before .before .before .slice-known .given i .fits) (t .table-words .ensures) (c .before .before .before .before .before .answer-on2 .ensures) (search needs)))
+    let p = c .before .before .before in
+    let r = p .before .before .before .before .before .before .before in
+    let w = r .before .before .before .before .before in
+    let t = w .before .before .before .before .before in
+    answer-at _ _ _ _ _ _ _ _ _ _ (λ (i : ℕ). t .before .before .before .before .before .slice-known .given i .fits) (t .table-words .ensures) (w .take-out2 .ensures) (r .command2 .ensures) (p .put-back2 .ensures) (search needs)))

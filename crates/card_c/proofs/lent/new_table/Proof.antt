@@ -16,5 +16,23 @@ new-table-spec =
     (λ c. search needs)
     (λ c. search needs)
     (λ c κs. search needs)
+    (λ c κs. search needs)
+    (λ c κs. search needs)
     (λ c. search needs)
-    (λ c. set-up-at _ _ _ _ _ (λ (i : ℕ). c .before .before .before .before .before .before .before .before .before .slice-known .given i .fits) (c .before .before .before .set-up-on .ensures) (search needs)))
+    (λ c. search needs)
+    (λ c. search needs)
+    (λ c κs. search needs)
+    (λ c κs. search needs)
+    (λ c κs. search needs)
+    (λ c. search needs)
+    (λ c.
+    let p = c .before .before .before in
+    let r = p .before .before .before .before .before in
+    let w = r .before .before .before .before in
+    set-up-at _ _ _ _ _ _ _ (λ (i : ℕ). w .before .before .before .before .before .before .before .before .slice-known .given i .fits) (w .take-out .ensures) (r .set-up .ensures) (p .put-back .ensures) (search needs))
+    (λ c. search needs)
+    (λ c.
+    let p = c .before .before .before in
+    let r = p .before .before .before .before .before in
+    let w = r .before .before .before .before in
+    set-up-at _ _ _ _ _ _ _ (λ (i : ℕ). w .before .before .before .before .before .before .before .before .slice-known .given i .fits) (w .take-out2 .ensures) (r .set-up2 .ensures) (p .put-back2 .ensures) (search needs)))

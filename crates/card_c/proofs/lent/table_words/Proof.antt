@@ -13,4 +13,4 @@ table-words-spec =
     (λ c κs. search needs)
     (λ c κs. search needs)
     (λ c κs. search needs)
-    (λ c. extent-some _ _ (c .before .before .before .if1 .left) (c .extent .ensures ∙ ap₂ extentOf (c .before .wide .ensures ∙ c .before .before .get .ensures) refl)))
+    (λ c. extent-some _ _ (c .before .before .before .if1 .left) (c .extent .ensures ∙ ap₂ extentOf (c .before .wide .ensures ∙ c .before .before .word-at .ensures) refl)))
