@@ -6,10 +6,10 @@ use lib.ListN.{length}
 use Rattle.octets.specs.Octets.{padded}
 use Rattle.replies.specs.Answers.{Answer, granted}
 use Rattle.pages.specs.Aggregate.{aggregatePage}
-use Rattle.card.specs.declared.commands.Kind.{Kind}
-use Rattle.card.specs.declared.commands.Kind.the-variants.{ReadAggregate}
+use Rattle.commands.specs.declared.Kind.{Kind}
+use Rattle.commands.specs.declared.Kind.the-variants.{ReadAggregate}
 use Rattle.card.specs.Items.{Nobody, command}
-use Rattle.card.specs.Commands.{commandIn, kindOf, offset, dwords}
+use Rattle.commands.specs.Commands.{commandIn, kindOf, offset, dwords}
 use Rattle.card.specs.Commanded.{viewed, aggregateOf, meaningBy, commandMeaning}
 use Rattle.card.specs.Meanings.{meaning}
 use Rattle.card.specs.Demands.{AggregateLog}

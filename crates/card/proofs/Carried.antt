@@ -14,9 +14,9 @@ use Rattle.replies.specs.declared.Reply.{Reply}
 use Rattle.replies.specs.Answers.{Answer, answered, granted, refused, refusing, Replied}
 use Rattle.table.specs.Layout.{wordsOf, recordOf}
 use Rattle.table.specs.Table.{row, put}
-use Rattle.card.specs.declared.commands.Command.{Command}
-use Rattle.card.specs.declared.commands.Kind.{Kind}
-use Rattle.card.specs.Commands.{kindOf, needsOut}
+use Rattle.commands.specs.declared.Command.{Command}
+use Rattle.commands.specs.declared.Kind.{Kind}
+use Rattle.commands.specs.Commands.{kindOf, needsOut}
 use Rattle.card.specs.Commanded.{isNamed, ruleBy, doneBy}
 use Rattle.card.specs.OnSet.{dwordBy, pageBy, fromBy, statusOn, answerOn, OnSet}
 use Rattle.card.proofs.Passing.{Fine, fine, done-is}

@@ -17,7 +17,7 @@ use Rattle.record.specs.Record.{stateOf}
 use Rattle.record.specs.Events.{eventsOf, noEvents, bitsOf}
 use Rattle.pages.specs.Latency.{latencyPage}
 use Rattle.card.specs.Items.{Card, Item, reads, excursion, tick, command}
-use Rattle.card.specs.Commands.{commandIn}
+use Rattle.commands.specs.Commands.{commandIn}
 use Rattle.card.specs.Commanded.{commandMeaning}
 use Rattle.card.specs.Meanings.{meaning}
 use Rattle.card.specs.Card.{statusOf, effectOn, concerns, touched, answer, Outcome, step}

@@ -15,12 +15,12 @@ use Rattle.replies.specs.declared.Reply.{Reply}
 use Rattle.replies.specs.Answers.{Answer, refused, refusing, Replied}
 use Rattle.replies.proofs.Answering.{one-outcome}
 use Rattle.table.specs.Table.{legalTable}
-use Rattle.card.specs.declared.commands.Command.{Command}
-use Rattle.card.specs.declared.commands.Kind.{Kind}
-use Rattle.card.specs.declared.commands.Kind.the-variants.{SetConfig, SetWindow, GetConfig, GetWindow, ReadLatency, ReadAggregate, Identify}
+use Rattle.commands.specs.declared.Command.{Command}
+use Rattle.commands.specs.declared.Kind.{Kind}
+use Rattle.commands.specs.declared.Kind.the-variants.{SetConfig, SetWindow, GetConfig, GetWindow, ReadLatency, ReadAggregate, Identify}
 use Rattle.card.specs.Lists.{first}
 use Rattle.card.specs.Items.{Card, Item, reads, writes, excursion, tick, command, One, Meaning, Nobody, Everybody, The}
-use Rattle.card.specs.Commands.{kindOf, commandIn}
+use Rattle.commands.specs.Commands.{kindOf, commandIn}
 use Rattle.card.specs.Commanded.{meaningBy, commandMeaning}
 use Rattle.card.specs.Meanings.{meaning}
 use Rattle.card.specs.Card.{has, unknownAt, statusOne, statusBy, statusOf, doneOne, doneBy, answerBy, answer}

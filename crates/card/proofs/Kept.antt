@@ -19,10 +19,10 @@ use Rattle.table.proofs.Written.{legal-sized, written-back, written-legal}
 use Rattle.card.specs.Items.{Item, reads, writes, excursion, tick, command, Meaning, Nobody, Everybody, The}
 use Rattle.octets.specs.Choice.{if_then_else_}
 use Rattle.pages.specs.Features.{configIn}
-use Rattle.card.specs.declared.commands.Command.{Command}
-use Rattle.card.specs.declared.commands.Kind.{Kind}
-use Rattle.card.specs.declared.commands.Kind.the-variants.{SetConfig, SetWindow, GetConfig, GetWindow, ReadLatency, ReadAggregate, Identify}
-use Rattle.card.specs.Commands.{enable, windowCause, retain, kindOf, commandIn}
+use Rattle.commands.specs.declared.Command.{Command}
+use Rattle.commands.specs.declared.Kind.{Kind}
+use Rattle.commands.specs.declared.Kind.the-variants.{SetConfig, SetWindow, GetConfig, GetWindow, ReadLatency, ReadAggregate, Identify}
+use Rattle.commands.specs.Commands.{enable, windowCause, retain, kindOf, commandIn}
 use Rattle.card.specs.Commanded.{meaningBy, commandMeaning}
 use Rattle.card.specs.Meanings.{meaning}
 use Rattle.card.specs.Card.{statusAt, effectBy, effectOn, concerns, touched, after, step}

@@ -10,7 +10,6 @@ pub mod Stored
 pub mod Aggregate
 pub mod OnWords
 pub mod NewSets
-pub mod Stacked
 pub mod Passing
 pub mod Carried
 pub mod Naming

@@ -19,10 +19,10 @@ use Rattle.table.specs.declared.Entry.the-variants.{Bad, Unknown, Here}
 use Rattle.table.specs.Layout.{recordOf}
 use Rattle.table.specs.Table.{row, legalTable, enterIn}
 use Rattle.table.proofs.Known.{is-bad, is-unknown, is-here}
-use Rattle.card.specs.declared.commands.Command.{Command}
-use Rattle.card.specs.declared.commands.Kind.{Kind}
+use Rattle.commands.specs.declared.Command.{Command}
+use Rattle.commands.specs.declared.Kind.{Kind}
 use Rattle.card.specs.Items.{Item, The}
-use Rattle.card.specs.StatusTable.{earlyLines, unknownNumber}
+use Rattle.commands.specs.StatusTable.{earlyLines, unknownNumber}
 use Rattle.card.specs.Commanded.{namedBy, named}
 use Rattle.card.specs.Meanings.{meaning}
 use Rattle.card.specs.Words.{Answered}

@@ -19,11 +19,11 @@ use Rattle.pages.specs.Identify.{identifySize}
 use Rattle.pages.specs.Features.{configFields, configPage}
 use Rattle.pages.specs.Latency.{latencySize, latencyFields, latencyPage}
 use Rattle.pages.proofs.Numbers.{length-place}
-use Rattle.card.specs.declared.commands.Command.{Command}
-use Rattle.card.specs.declared.commands.Kind.{Kind}
-use Rattle.card.specs.declared.commands.Kind.the-variants.{SetConfig, SetWindow, GetConfig, GetWindow, ReadLatency, ReadAggregate, Identify}
-use Rattle.card.specs.Commands.{isLog, isSet, isGet, chosen, select, offset, configFid, latencyPageNo, kindBy, kindOf, needsIn, needsOut, logSize}
-use Rattle.card.specs.StatusTable.{partWrong, earlyLines, shortLine, lateLines}
+use Rattle.commands.specs.declared.Command.{Command}
+use Rattle.commands.specs.declared.Kind.{Kind}
+use Rattle.commands.specs.declared.Kind.the-variants.{SetConfig, SetWindow, GetConfig, GetWindow, ReadLatency, ReadAggregate, Identify}
+use Rattle.commands.specs.Commands.{isLog, isSet, isGet, chosen, select, offset, configFid, latencyPageNo, kindBy, kindOf, needsIn, needsOut, logSize}
+use Rattle.commands.specs.StatusTable.{partWrong, earlyLines, shortLine, lateLines}
 use Rattle.card.specs.Commanded.{isNamed, modeNo, doneBy}
 use Rattle.card.specs.OnSet.{dwordBy, pageBy, fromBy}
 

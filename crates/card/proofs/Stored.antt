@@ -30,12 +30,12 @@ use Rattle.rules.specs.Rules as rules
 use Rattle.table.specs.Table.{idOf}
 use Rattle.pages.specs.Features.{configIn}
 use Rattle.card.specs.Lists.{first}
-use Rattle.card.specs.declared.commands.Command.{Command}
-use Rattle.card.specs.declared.commands.Kind.{Kind}
-use Rattle.card.specs.declared.commands.Kind.the-variants.{SetConfig, SetWindow, GetConfig, GetWindow, ReadLatency, ReadAggregate, Identify}
+use Rattle.commands.specs.declared.Command.{Command}
+use Rattle.commands.specs.declared.Kind.{Kind}
+use Rattle.commands.specs.declared.Kind.the-variants.{SetConfig, SetWindow, GetConfig, GetWindow, ReadLatency, ReadAggregate, Identify}
 use Rattle.card.specs.Items.{Card, Item, reads, writes, excursion, tick, command, One, Meaning, Nobody, Everybody, The}
-use Rattle.card.specs.Commands.{featureSet, enable, windowValue, causeBy, windowCause, retain, kindOf, commandIn}
-use Rattle.card.specs.StatusTable.{earlyLines, unknownNumber, isOff, lateLines}
+use Rattle.commands.specs.Commands.{featureSet, enable, windowValue, causeBy, windowCause, retain, kindOf, commandIn}
+use Rattle.commands.specs.StatusTable.{earlyLines, unknownNumber, isOff, lateLines}
 use Rattle.card.specs.Commanded.{modeNo, named, meaningBy, commandMeaning}
 use Rattle.card.specs.Meanings.{meaning}
 use Rattle.card.specs.Card.{statusAt, statusOne, statusOf, has, effectBy, effectOn, names, namesBy, concernsBy, concerns, touched, after, answer, run}

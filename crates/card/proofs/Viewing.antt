@@ -15,12 +15,12 @@ use Rattle.table.proofs.Written.{written-own}
 use Rattle.pages.specs.Identify.{identifySize, identifyFields, shown, identifyPage}
 use Rattle.pages.proofs.Numbers.{length-place}
 use Rattle.record.specs.declared.Attributes.{Attributes}
-use Rattle.card.specs.declared.commands.Command.{Command}
-use Rattle.card.specs.declared.commands.Kind.{Kind}
-use Rattle.card.specs.declared.commands.Kind.the-variants.{SetConfig, SetWindow, GetConfig, GetWindow, ReadLatency, ReadAggregate, Identify}
+use Rattle.commands.specs.declared.Command.{Command}
+use Rattle.commands.specs.declared.Kind.{Kind}
+use Rattle.commands.specs.declared.Kind.the-variants.{SetConfig, SetWindow, GetConfig, GetWindow, ReadLatency, ReadAggregate, Identify}
 use Rattle.card.specs.Items.{Card, Item, command, Nobody, The}
-use Rattle.card.specs.Commands.{isSet, isGet, isLog, chosen, configFid, latencyPageNo, kindBy, kindOf, commandIn}
-use Rattle.card.specs.StatusTable.{earlyLines, shortLine}
+use Rattle.commands.specs.Commands.{isSet, isGet, isLog, chosen, configFid, latencyPageNo, kindBy, kindOf, commandIn}
+use Rattle.commands.specs.StatusTable.{earlyLines, shortLine}
 use Rattle.card.specs.Commanded.{isNamed, namedBy, named, viewed, aggregateOf, setListOf, meaningBy, commandMeaning}
 use Rattle.card.specs.Meanings.{meaning}
 use Rattle.card.specs.Card.{concerns, after, answer}

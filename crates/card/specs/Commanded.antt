@@ -17,12 +17,12 @@ use Rattle.pages.specs.Features.{configIn, configPage}
 use Rattle.pages.specs.Latency.{latencyPage}
 use Rattle.pages.specs.Aggregate.{picked, aggregatePage}
 use Rattle.pages.specs.Identify.{identifyPage}
-use Rattle.card.specs.declared.commands.Command.{Command}
-use Rattle.card.specs.declared.commands.Kind.{Kind}
-use Rattle.card.specs.declared.commands.Kind.the-variants.{SetConfig, SetWindow, GetConfig, GetWindow, ReadLatency, ReadAggregate, Identify}
+use Rattle.commands.specs.declared.Command.{Command}
+use Rattle.commands.specs.declared.Kind.{Kind}
+use Rattle.commands.specs.declared.Kind.the-variants.{SetConfig, SetWindow, GetConfig, GetWindow, ReadLatency, ReadAggregate, Identify}
 use Rattle.card.specs.Items.{Card, One, View, Meaning, Nobody, The}
-use Rattle.card.specs.Commands.{featureSet, logSet, enable, windowCause, retain, dwords, offset, asked, kindOf, commandIn}
-use Rattle.card.specs.StatusTable.{earlyLines, unknownNumber, shortLine, lateLines}
+use Rattle.commands.specs.Commands.{featureSet, logSet, enable, windowCause, retain, dwords, offset, asked, kindOf, commandIn}
+use Rattle.commands.specs.StatusTable.{earlyLines, unknownNumber, shortLine, lateLines}
 
 -- ---- commands that name a set
 

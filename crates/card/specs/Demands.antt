@@ -24,9 +24,9 @@ use Rattle.pages.specs.Features.{configIn, configPage}
 use Rattle.pages.specs.Aggregate.{picked, aggregatePage}
 use Rattle.card.specs.Lists.{nth, keep, beside, join}
 use Rattle.card.specs.Items.{Card, Item, reads, writes, excursion, tick, command, All, View, Meaning, Nobody, Everybody, The}
-use Rattle.card.specs.declared.commands.Kind.{Kind}
-use Rattle.card.specs.declared.commands.Kind.the-variants.{SetConfig, SetWindow, GetConfig, GetWindow, ReadLatency, ReadAggregate, Identify}
-use Rattle.card.specs.Commands.{commandIn, kindOf, featureSet, enable, windowValue, offset, dwords}
+use Rattle.commands.specs.declared.Kind.{Kind}
+use Rattle.commands.specs.declared.Kind.the-variants.{SetConfig, SetWindow, GetConfig, GetWindow, ReadLatency, ReadAggregate, Identify}
+use Rattle.commands.specs.Commands.{commandIn, kindOf, featureSet, enable, windowValue, offset, dwords}
 use Rattle.card.specs.Commanded.{isNamed, namedBy}
 use Rattle.card.specs.Meanings.{meaning}
 use Rattle.card.specs.Card.{effectOn, ruled, statusOf, names, answer, step, run, trace}

@@ -1,7 +1,5 @@
 pub mod Lists
 pub mod Items
-pub mod Commands
-pub mod StatusTable
 pub mod Commanded
 pub mod Meanings
 pub mod Card

@@ -15,12 +15,12 @@ use Rattle.table.specs.Layout.{wordsOf, recordOf}
 use Rattle.table.specs.Table.{row, put}
 use Rattle.pages.specs.Features.{configPage}
 use Rattle.pages.specs.Latency.{latencySize, latencyPage}
-use Rattle.card.specs.declared.commands.Command.{Command}
-use Rattle.card.specs.declared.commands.Kind.{Kind}
-use Rattle.card.specs.declared.commands.Kind.the-variants.{SetConfig, SetWindow, GetConfig, GetWindow, ReadLatency, ReadAggregate, Identify}
-use Rattle.card.specs.Commands.{offset}
+use Rattle.commands.specs.declared.Command.{Command}
+use Rattle.commands.specs.declared.Kind.{Kind}
+use Rattle.commands.specs.declared.Kind.the-variants.{SetConfig, SetWindow, GetConfig, GetWindow, ReadLatency, ReadAggregate, Identify}
+use Rattle.commands.specs.Commands.{offset}
 use Rattle.card.specs.Commanded.{ruleBy, modeNo, doneBy}
-use Rattle.card.specs.StatusTable.{earlyLines, lateLines}
+use Rattle.commands.specs.StatusTable.{earlyLines, lateLines}
 
 -- the answer of `doneBy` as it is handed out: dword 0, a page, and the part of it; a command without data hands out no byte of
 -- its page of zeros

@@ -14,7 +14,7 @@ use Rattle.octets.proofs.Tests.{both}
 use Rattle.pages.specs.Numbers.{numberAt}
 use Rattle.replies.specs.declared.Reply.{Reply}
 use Rattle.replies.specs.Answers.{Answer, cut, Replied}
-use Rattle.card.specs.Commands.{commandSize}
+use Rattle.commands.specs.Commands.{commandSize}
 use Rattle.card.specs.Items.{Item, reads, writes, excursion, tick, command}
 use Rattle.card.specs.Words.{stepWords, Stepped, Answered}
 use Rattle.card.proofs.Plain.{Plain}

@@ -10,7 +10,7 @@ use lib.Seq.{sets}
 use Rattle.octets.specs.Choice.{if_then_else_}
 use Rattle.pages.specs.Numbers.{numberAt}
 use Rattle.pages.specs.Bodies.{bodySize as setBodySize}
-use Rattle.card.specs.Commands.{commandSize}
+use Rattle.commands.specs.Commands.{commandSize}
 use Rattle.card.specs.Items.{Item, reads, writes, excursion, tick, command}
 use Rattle.card.specs.Words.{stepWords}
 use Rattle.tape.specs.Text.{itemLine}

@@ -3,7 +3,7 @@ use native.Mathlib.Omega.{arith}
 use borrow.Author.Needs.{needs}
 use lib.ListN.{length}
 use Rattle.table.proofs.Known.{legal-known}
-use Rattle.card.specs.declared.commands.Kind.the-variants.{ReadAggregate}
+use Rattle.commands.specs.declared.Kind.the-variants.{ReadAggregate}
 use Rattle.card.specs.Commanded.{aggregateOf}
 use Rattle.card.proofs.Passing.{aggregate-fine}
 use Rattle.card.proofs.Naming.{answered-bad}
