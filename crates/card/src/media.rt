@@ -42,7 +42,7 @@ fn effect_of(a: Attributes, s: State, m: Media) -> Effect
 }
 
 // The record after an event.
-fn after_event(r: Record, m: Media) -> Record
+pub fn after_event(r: Record, m: Media) -> Record
     ensures { λ x. ⌜ x ≡ settled r (mediaRule m (r .attributes) (r .state)) ⌝ }
 {
     let a = r.attributes;

@@ -1,0 +1,23 @@
+-- 01: "The media layer charges one lent record in place; a thin layer over a by-value core."
+use mathlib.Core.Path.{_≡_}
+use Prim.Native.Nat.{ℕ}
+use Rattle.octets.specs.Choice.{if_then_else_}
+use Rattle.replies.specs.Numbers.{badTable}
+use Rattle.record.specs.declared.Record.{Record}
+use Rattle.record.specs.Events.{settled}
+use Rattle.record.specs.Legal.{legalRecord}
+use Rattle.card.specs.declared.media.Media.{Media}
+use Rattle.card.specs.Media.{mediaRule}
+use Rattle.by_reference.specs.declared.records.Charged.{Charged}
+
+-- the record after an event and the status number: 07C3h for one that is not legal, which stays as it is
+abbrev pub charged : Media → Record → Charged
+charged m r =
+    if legalRecord r
+    then record { «record» = settled r (mediaRule m (r .attributes) (r .state)); status = 0 }
+    else record { «record» = r; status = badTable }
+
+-- what a charge in place promises: the record that it leaves, and the number that it answers
+pub record ChargedInPlace (m : Media) (before after : Record) (number : ℕ) : Type 0 where
+  pub left : after ≡ charged m before .«record»
+  pub status : number ≡ charged m before .status

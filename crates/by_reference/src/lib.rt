@@ -1,0 +1,2 @@
+// Set-up from a lent list of attribute records, and a lent record charged in place: thin functions over the rules by value.
+pub mod records;
