@@ -1,2 +1,3 @@
 // Set-up from a lent list of attribute records, and a lent record charged in place: thin functions over the rules by value.
+pub mod lists;
 pub mod records;

@@ -1,6 +1,5 @@
--- `rec::spend` meets its contract: a walk of its MIR, by hand. The borrow is opened, the record is copied out and passed to `spend_by_value`, the record that it returned is stored back, and the borrow is closed at it. The answer that it returned is the result.
--- All that the proof knows of `spend_by_value` is that it meets its contract. No field of the record is named: its laws come from the module that `rattle check` makes of it.
--- Assumes nothing.
+-- `charge` meets its contract: a walk of its MIR, by hand. The borrow is opened, the record is copied out and passed to `charge_rule`, the record that it returned is stored back, and the borrow is closed at it. The status that it returned is the result.
+-- All that the proof knows of `charge_rule` is that it meets its contract. No field of the record is named: its laws come from the module that the check makes of it.
 use mathlib.Core.Path.{_≡_, refl, ap}
 use Prim.Native.Nat.{ℕ, _<_, _^_}
 use mathlib.Core.List.{[], _∷_, List}
