@@ -59,7 +59,7 @@ pub length-bodies : (list : List Attributes) → length (bodiesOf list) ≡ leng
 length-bodies [] = refl
 length-bodies (a ∷ list) = length-append (body a) (bodiesOf list) ∙ rw (body-length a, length-bodies list) (omega arith)
 
-bodies-many : (list : List Attributes) → bodies (bodiesOf list) ≡ length list
+pub bodies-many : (list : List Attributes) → bodies (bodiesOf list) ≡ length list
 bodies-many list = rw (length-bodies list) (omega arith)
 
 bodies-append : (xs ys : List Attributes) → bodiesOf (xs ++ ys) ≡ bodiesOf xs ++ bodiesOf ys
@@ -119,7 +119,7 @@ status-many : (bytes : List ℕ) (words : ℕ) → maxSets < bodies bytes → se
 unfolding setUpStatus
 status-many bytes words h = rw (lt-leb (bodies bytes) maxSets h, and-false)
 
-refused-many : (bytes ws : List ℕ) → maxSets < bodies bytes → setUp bytes ws ≡ record { table = ws; answer = refused badSetUp }
+pub refused-many : (bytes ws : List ℕ) → maxSets < bodies bytes → setUp bytes ws ≡ record { table = ws; answer = refused badSetUp }
 unfolding setUp
 refused-many bytes ws h = rw (status-many bytes (length ws) h)
 
