@@ -1,8 +1,8 @@
 -- Bodies put one after another into bytes: what is held after each, and that set-up needs no more of a long list than it holds.
 use mathlib.Core.Path.{_≡_, refl, sym, ap, _∙_}
-use mathlib.Core.Bool.{Bool, true, false, not, _&&_, and-false}
+use mathlib.Core.Bool.{Bool, true, false, and-false}
 use mathlib.Core.List.{List, [], _∷_, _++_, append-nil, append-assoc}
-use Prim.Native.Nat.{ℕ, zero, suc, _+_, _-_, _*_, _/_, _≤_, _<_, min}
+use Prim.Native.Nat.{ℕ, suc, _+_, _-_, _*_, _/_, _≤_, _<_, min}
 use native.Mathlib.Omega.{arith}
 use native.Mathlib.Nat.{zero-add}
 use native.Mathlib.Numerals.{add-one}
@@ -15,7 +15,7 @@ use Rattle.octets.specs.Choice.{if_then_else_}
 use Rattle.octets.specs.Octets.{padded}
 use Rattle.octets.proofs.Runs.{sets-append}
 use Rattle.record.specs.declared.Attributes.{Attributes}
-use Rattle.record.specs.Legal.{maxSets, inRange}
+use Rattle.record.specs.Legal.{maxSets}
 use Rattle.replies.specs.Numbers.{badSetUp}
 use Rattle.replies.specs.Answers.{refused}
 use Rattle.pages.specs.Bodies.{bodySize, body, attributesIn}
@@ -32,7 +32,7 @@ stored-from l vs a h =
     let long : length (take n (drop a l)) ≡ n = simp (length-take, length-drop) (omega arith) in
     let rest : length (drop a l) ≡ n = length-drop a l in
     let joined : sets (take n (drop a l)) 0 vs ++ drop n (drop a l) ≡ sets (drop a l) 0 vs
-      = sym (sets-append vs (take n (drop a l)) (drop n (drop a l)) 0 (omega arith)) ∙ ap (λ (z : List ℕ). sets z 0 vs) (take-append-drop n (drop a l)) in
+    = sym (sets-append vs (take n (drop a l)) (drop n (drop a l)) 0 (omega arith)) ∙ ap (λ (z : List ℕ). sets z 0 vs) (take-append-drop n (drop a l)) in
     ap (λ (z : List ℕ). take a l ++ z) (joined ∙ sets-eq vs (drop a l) 0 (omega arith))
     ∙ rw (sets-eq vs l a h, zero-add, drop-drop (length vs) a l) (sym (append-assoc (take a l) vs (drop (a + length vs) l)))
 
@@ -146,5 +146,5 @@ set-up-all room h list i bytes g over ws after r p =
     let last : i ≡ length list = omega (arith, g .within) in
     let same : bodies bytes ≡ room / bodySize = ap (λ (n : ℕ). n / bodySize) (g .long) in
     let whole : setUp (firstBodies bytes (length list)) ws ≡ setUp (bodiesOf list) ws
-      = ap (λ (xs : List ℕ). setUp xs ws) (rw last at (g .held)) ∙ cut-list list ws (bodies bytes) (rw same h) in
+    = ap (λ (xs : List ℕ). setUp xs ws) (rw last at (g .held)) ∙ cut-list list ws (bodies bytes) (rw same h) in
     record { table = p .table ∙ ap (λ (s : Result). s .table) whole; status = p .status ∙ ap (λ (s : Result). s .answer .status) whole }

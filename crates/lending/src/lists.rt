@@ -3,9 +3,9 @@ use by_reference::callers::set_up_three;
 use pages::bodies::attributes_in;
 use record::Attributes;
 use samples::ATTRIBUTES;
-use samples::SET_12;
 use samples::SET_7;
 use samples::SET_9;
+use samples::SET_12;
 use samples::copy;
 use samples::no_bytes;
 use samples::no_words;
@@ -51,7 +51,12 @@ fn wrong(words: &mut [u64]) {
     try_sets(words, 102, ENOUGH, [SET_9, SET_7, SET_12]);
     try_sets(words, 103, ENOUGH, [SET_7, SET_7, SET_12]);
     try_sets(words, 104, ENOUGH, [with(SET_7, 0, 0), SET_9, SET_12]);
-    try_sets(words, 105, ENOUGH, [SET_7, SET_9, with(SET_12, 10, 86400001)]);
+    try_sets(
+        words,
+        105,
+        ENOUGH,
+        [SET_7, SET_9, with(SET_12, 10, 86400001)],
+    );
     try_sets(words, 106, 72, [SET_7, SET_9, SET_12]);
     try_sets(words, 107, 72, [SET_7, SET_9, with(SET_12, 8, 0)]);
 }

@@ -2,8 +2,8 @@
 -- All that the proof knows of the two is that they meet their contracts. No field of the struct is named: its laws come from the module that the check makes of it. Its size and the buffer's are read from the MIR.
 --     State            the loop's invariant, `Filled`: the buffer holds the first bodies. The variant is the number of elements left
 --     At               what is had where a turn begins.        turns      a turn: it puts one body, or it leaves the loop and the rest of the body runs
-use mathlib.Core.Path.{_≡_, refl, sym, ap, subst}
-use Prim.Native.Nat.{ℕ, zero, suc, _+_, _-_, _*_, _≤_, _<_, _^_}
+use mathlib.Core.Path.{_≡_, refl, sym, subst}
+use Prim.Native.Nat.{ℕ, zero, suc, _+_, _-_, _*_, _<_, _^_}
 use native.Mathlib.Nat.{lt-of-le-of-lt}
 use native.Mathlib.Numerals.{add-one-le, add-one-dec}
 use native.Mathlib.Omega.{arith}
@@ -30,7 +30,7 @@ use types.Run.{Opd, look, look-raw, store, init, forget, stop, hop, fld, from, l
 use types.SemTy.{cells, Arr}
 use types.Share.{arr-parts}
 use types.Tokens.{lft-new, lft-end, lent-back}
-use sound.WpLaws.{FmC, fmOf, WpFn-mono}
+use sound.WpLaws.{fmOf, WpFn-mono}
 use denote.RattleType.{RattleType, owns}
 use denote.Shadow.{shadow}
 use denote.Array.{each, Array, arrayVal, array-vals, array-tells, array-lawful, array-makes}
@@ -60,6 +60,7 @@ use Rattle.record.proofs.Attributes as T
 use Rattle.record.proofs.Attributes.Laws as T′
 use Rattle.card.specs.SetUp.{SetUp}
 use Rattle.by_reference.specs.Lists.{bodiesOf, withBody, firstBodies}
+use Rattle.by_reference.proofs.Values.{attributesVal}
 use Rattle.by_reference.proofs.Filled.{blank, Filled, filled-none, filled-more, set-up-all}
 use Rattle.by_reference.proofs.lists.put_body as put
 use Rattle.by_reference.proofs.lists.put_body.Symbol as put-def
@@ -166,9 +167,6 @@ module _ {M : Type 1} (𝓤 : URA M) (H : Heap 𝓤) (A : Atoms 𝓤) (W : Given
   abbrev s′ : Val
   s′ = sliceVal (b′, o′) n
 
-  abbrev mach : Attributes → Val
-  mach h = LL.tuple-val T.the-type T′.the-laws (T.the-type .to h)
-
   abbrev at : Vals f.signature (κ, (κ′, tt))
   at = (s ∷ [], (s′ ∷ [], tt))
 
@@ -219,9 +217,9 @@ module _ {M : Type 1} (𝓤 : URA M) (H : Heap 𝓤) (A : Atoms 𝓤) (W : Given
   sb l m = sliceVal (l, 0) m
 
   abbrev to-put : ℕ → ℕ → List ℕ → ℕ → GName → Put 𝓤 H A at-mem run .Ghost
-  to-put l i bs ν δ = (((ν ∷ [], tt), (fullShare, tt), tt, (y l δ bs, (i, (getD ys i blank, tt))), (sb l (length bs) ∷ [], (vint w64 i ∷ [], (mach (getD ys i blank) ∷ [], tt)))), tt)
+  to-put l i bs ν δ = (((ν ∷ [], tt), (fullShare, tt), tt, (y l δ bs, (i, (getD ys i blank, tt))), (sb l (length bs) ∷ [], (vint w64 i ∷ [], (attributesVal (getD ys i blank) ∷ [], tt)))), tt)
 
-  goes-put : (l i : ℕ) (bs : List ℕ) → i < 2 ^ 64 → Is T.the-row (getD ys i blank) (mach (getD ys i blank) ∷ []) → (ν : ℕ) (δ : GName)
+  goes-put : (l i : ℕ) (bs : List ℕ) → i < 2 ^ 64 → Is T.the-row (getD ys i blank) (attributesVal (getD ys i blank) ∷ []) → (ν : ℕ) (δ : GName)
       → ent 𝓤 (sep 𝓤 (A .lft (ν ∷ []) fullShare) (sem 𝓤 H A (MutSlice (named 0) (ν ∷ []) u8 .own (y l δ bs) (sb l (length bs) ∷ [])))) (Put 𝓤 H A at-mem run .pre (to-put l i bs ν δ))
   goes-put l i bs i-fits is ν δ =
       qed W (‵ (flft (ν ∷ []) fullShare) ∷ ‵ (MutSlice (named 0) (ν ∷ []) u8 .own (y l δ bs) (sb l (length bs) ∷ [])) ∷ []) ∵ nothing ! $ move ! (1 ∷ 0 ∷ []) $ join ! $ move ! (1 ∷ 0 ∷ []) $
@@ -316,7 +314,7 @@ module _ {M : Type 1} (𝓤 : URA M) (H : Heap 𝓤) (A : Atoms 𝓤) (W : Given
         elem-out ! T.the-row (Is T.the-row) (shows 𝓤 H A T.the-row) (LL.vals T.the-type T′.the-laws) (LL.tells T.the-type T′.the-laws) z ys i blank b′ o′ (less under) (λ is.
         -- [the element's cell; what it owns; the others; what shuts; the fractured borrow; the table; its token; res; the list's facts; the buffer; room for _16 10; …; room for _11 20; …; _10 22; …]
         assigns ! (of-opd ! (load ! (from ! (hop ! (look ! 22 refl) (stop !))) (look-raw ! 0 refl))) (from ! (stop !)) (init ! 20 refl (LL.lawful T.the-type T′.the-laws 𝓤 H A W .typed (getD ys i blank) _ is .0)) $
-        elem-back ! T.the-row z ys i blank (mach (getD ys i blank) ∷ []) b′ o′ (less under) $ shuts-slice ! tt T.the-row z ys b′ o′ $
+        elem-back ! T.the-row z ys i blank (attributesVal (getD ys i blank) ∷ []) b′ o′ (less under) $ shuts-slice ! tt T.the-row z ys b′ o′ $
         -- [the list's token; the fractured borrow; the table; its token; res; the list's facts; the buffer; _16 7; …]: the buffer is lent for a lifetime ν of the call
         lft-new ! tt (λ ν. move ! (7 ∷ []) $ fsplit ! $ drop ! $
         use1 W (later (some (λ (δ : GName). ‵ (MutSlice (named 0) (ν ∷ []) u8 .own (y l₃ δ bs) (sb l₃ (length bs) ∷ [])) ⊛ ‵ (flent (ν ∷ []) (Held u8 (length bs) l₃ 0 δ))))) (lends-slice 𝓤 H A W u8 (named 0) (ν ∷ []) bs l₃ 0 roomy) $ await ! tt $ pick ! (λ δ. split ! $
