@@ -23,7 +23,8 @@ use Rattle.pages.proofs.Back.{body-length}
 use Rattle.card.specs.Words.{Result}
 use Rattle.card.specs.SetUp.{bodies, setUpStatus, setUp, SetUp}
 use Rattle.card.proofs.Passing.{padded-all}
-use Rattle.by_reference.specs.Lists.{bodiesOf, withBody, firstBodies}
+use Rattle.by_reference.specs.Buffer.{withBody, firstBodies}
+use Rattle.by_reference.specs.Lists.{bodiesOf}
 
 -- a run stored at the start of what lies from a place on
 stored-from : (l vs : List ℕ) (a : ℕ) → a + length vs ≤ length l → putMid a (length l - a) l (sets (take (length l - a) (drop a l)) 0 vs) ≡ sets l a vs

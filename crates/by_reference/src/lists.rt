@@ -1,15 +1,17 @@
 // Set-up takes a lent list of attribute records.
 ghost use mathlib.Core.Path.{_≡_};
 ghost use Rattle.card.specs.SetUp.{SetUp};
-ghost use Rattle.by_reference.specs.Lists.{bodiesOf, withBody, firstBodies};
+ghost use Rattle.by_reference.specs.Buffer.{withBody, firstBodies};
+ghost use Rattle.by_reference.specs.Lists.{bodiesOf};
 use card::setting::BODY;
 use octets::copy_part;
 use octets::least;
 use pages::bodies::body_of;
 use record::Attributes;
+use record::legal::MAX_SETS;
 
-// Room for the bodies of 32 sets, one more than a table may have: a longer list is refused as one of 32 is.
-const ROOM: usize = 2688;
+// Room for one body more than a table may have sets: a list that is longer still is refused as that one is.
+const ROOM: usize = (MAX_SETS + 1) * BODY;
 
 // A body in the i-th place, where there is room for it.
 fn put_body(bytes: &mut [u8], i: usize, a: Attributes)

@@ -59,7 +59,8 @@ use Rattle.record.specs.declared.Attributes.{Attributes}
 use Rattle.record.proofs.Attributes as T
 use Rattle.record.proofs.Attributes.Laws as T′
 use Rattle.card.specs.SetUp.{SetUp}
-use Rattle.by_reference.specs.Lists.{bodiesOf, withBody, firstBodies}
+use Rattle.by_reference.specs.Buffer.{withBody, firstBodies}
+use Rattle.by_reference.specs.Lists.{bodiesOf}
 use Rattle.by_reference.proofs.Values.{attributesVal}
 use Rattle.by_reference.proofs.Filled.{blank, Filled, filled-none, filled-more, set-up-all}
 use Rattle.by_reference.proofs.lists.put_body as put
