@@ -60,6 +60,7 @@ fn report_to(words: &mut [u64], r: Report) -> u16
     }
 }
 
+// The first words of the region, as many as are lent.
 fn take_out(region: &[u8], words: &mut [u64])
     requires { ⌜ length (now words) * wordSize ≤ length (now region) ⌝ }
     ensures { λ _. ⌜ TakenOut (now (region .entry)) (now (words .entry)) (now (words .exit)) ⌝ }
@@ -76,6 +77,9 @@ fn put_back(words: &[u64], region: &mut [u8], status: u16)
         words_out(words, region);
     }
 }
+
+// The three functions below hold the words themselves and do the copying, for few words and for many: the compiler then sees
+// that the words do not overlap the region, and copies them at once.
 
 pub(crate) fn note(region: &mut [u8], r: Report) -> u16
     ensures { λ x. ⌜ EventAtC (now (region .entry)) (itemBy r) (now (region .exit)) x ⌝ }
