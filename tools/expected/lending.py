@@ -1,6 +1,6 @@
 #!/usr/bin/env python3
 """What the program `lending` must print, from document 01 and docs/LAYOUT.md alone (see model.py)."""
-from model import D, FIELDS, body, changing_in_range, charge, excursion, lend, set_up, statics_in_range
+from model import D, FIELDS, N, OFF, body, changing_in_range, charge, excursion, lend, set_up, statics_in_range
 
 LARGEST = 2**64 - 1
 DAY = 86_400_000
@@ -63,6 +63,12 @@ def records():
     try_event(401, count("reads", 1), reads=101)
     try_event(402, count("writes", 1), listed=1)
     try_event(403, excursion, id=0)
+    try_event(501, count("reads", 5), window=N, reads=0, writes=0, time=0)
+    try_event(502, excursion, window=OFF, reads=0, writes=0, time=0)
+    try_event(601, count("reads", 11), events=0x4002, listed=1)
+    try_event(602, count("reads", 11), enev=0xC006)
+    try_event(603, count("writes", 1), writes_threshold=2)
+    try_event(604, count("reads", 65_535))
 
 
 lists()

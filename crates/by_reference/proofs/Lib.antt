@@ -1,3 +1,4 @@
 pub mod Values
 pub mod Filled
 pub mod OfList
+pub mod OfRecord

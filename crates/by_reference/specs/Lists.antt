@@ -16,7 +16,8 @@ bodiesOf (a ∷ list) = body a ++ bodiesOf list
 
 -- ---- Two laws, each proved under its name, in lower case and with dashes, in proofs/OfList.antt.
 
--- "Set-up takes a lent list of attribute records": what it sets up are these, however they pass as bodies.
+-- "Set-up takes a lent list of attribute records": the sets that it makes have the list's own attributes, and nothing is lost in a
+-- body, for numbers that fit their fields, as those of the types u16, u32 and u64 do.
 abbrev pub TheirOwn : Type 0
 TheirOwn = (list : List Attributes) → AllSized list → newSets (bodiesOf list) ≡ map newRecord list
 

@@ -1,5 +1,6 @@
 -- 01: "The media layer charges one lent record in place; a thin layer over a by-value core."
 use mathlib.Core.Path.{_≡_}
+use mathlib.Core.Bool.{true}
 use Prim.Native.Nat.{ℕ}
 use Rattle.octets.specs.Choice.{if_then_else_}
 use Rattle.replies.specs.Numbers.{badTable}
@@ -7,7 +8,9 @@ use Rattle.record.specs.declared.Record.{Record}
 use Rattle.record.specs.Events.{settled}
 use Rattle.record.specs.Legal.{legalRecord}
 use Rattle.card.specs.declared.media.Media.{Media}
-use Rattle.card.specs.Media.{mediaRule}
+use Rattle.table.specs.Table.{idOf}
+use Rattle.card.specs.Media.{itemOf, mediaRule}
+use Rattle.card.specs.Card.{ruled}
 use Rattle.by_reference.specs.declared.records.Charged.{Charged}
 
 -- the record after an event and the status number: 07C3h for one that is not legal, which stays as it is
@@ -21,3 +24,13 @@ charged m r =
 pub record ChargedInPlace (m : Media) (before after : Record) (number : ℕ) : Type 0 where
   pub left : after ≡ charged m before .«record»
   pub status : number ≡ charged m before .status
+
+-- ---- Two laws, each proved under its name, in lower case and with dashes, in proofs/OfRecord.antt.
+
+-- a charged record is what the step makes of it on any card that has it
+abbrev pub AsTheStep : Type 0
+AsTheStep = (m : Media) (r : Record) → legalRecord r ≡ true → charged m r .«record» ≡ ruled (itemOf (idOf r) m) r
+
+-- "Legal table", for one record
+abbrev pub StaysLegal : Type 0
+StaysLegal = (m : Media) (r : Record) → legalRecord r ≡ true → legalRecord (charged m r .«record») ≡ true

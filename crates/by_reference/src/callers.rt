@@ -1,4 +1,4 @@
-// One caller of each function over a reference, with plain parameters: a program that calls these needs no walk.
+// One caller of each function over a reference, with plain parameters: a program that calls these needs no proof by hand.
 ghost use mathlib.Core.Path.{_≡_};
 ghost use mathlib.Core.List.{[], _∷_};
 ghost use Rattle.card.specs.SetUp.{SetUp};

@@ -1,5 +1,5 @@
--- The step: what any item does to the card, and what is answered. Every public function's promise cites it, on the lent
--- words (`stepWords`); only set-up's cites `setUp`.
+-- The step: what any item does to the card, and what is answered. Every promise about an item on a lent table cites it, on the
+-- lent words (`stepWords`); set-up's cites `setUp`.
 use mathlib.Core.Bool.{Bool, true, false}
 use mathlib.Core.List.{List, [], _∷_, _++_, map}
 use mathlib.Core.Option.{Option, none, some}

@@ -21,7 +21,7 @@ use Rattle.commands.specs.declared.Command.{Command}
 use Rattle.commands.specs.declared.Kind.{Kind}
 use Rattle.commands.specs.declared.Kind.the-variants.{SetConfig, SetWindow, GetConfig, GetWindow, ReadLatency, ReadAggregate, Identify}
 use Rattle.card.specs.Items.{Card, One, View, Meaning, Nobody, The}
-use Rattle.commands.specs.Commands.{featureSet, logSet, enable, windowCause, retain, dwords, offset, asked, kindOf, commandIn}
+use Rattle.commands.specs.Commands.{dwordSize, featureSet, logSet, enable, windowCause, retain, dwords, offset, asked, kindOf, commandIn}
 use Rattle.commands.specs.StatusTable.{earlyLines, unknownNumber, shortLine, lateLines}
 
 -- ---- commands that name a set
@@ -30,6 +30,7 @@ use Rattle.commands.specs.StatusTable.{earlyLines, unknownNumber, shortLine, la
 abbrev pub readRule : Command → State → Effect
 readRule c s = if retain c then rules.still s else rules.clearingRead s
 
+-- what a command does to the set that it names; 0Bh and Identify, which name none, are not asked here: see `viewed`
 abbrev pub ruleBy : Kind → Command → List ℕ → Attributes → State → Effect
 ruleBy SetConfig c given a s = rules.configure (enable c) (configIn given) s
 ruleBy SetWindow c given a s = rules.selecting (windowCause c) a s
@@ -44,13 +45,13 @@ abbrev pub modeNo : State → ℕ
 modeNo s = byWindow (s .window) 0 1 1
 
 -- "Get returns enable with the 512 bytes, or the window, in dword 0. Other dword 0 values are zero."
--- A read's bytes are taken from the record before it is cleared.
+-- A read's bytes are taken from the record before it is cleared. 0Bh and Identify are not asked here: see `viewed`.
 abbrev pub doneBy : Kind → Command → Record → Answer
 doneBy SetConfig c r = granted 0 []
 doneBy SetWindow c r = granted 0 []
 doneBy GetConfig c r = granted (modeNo (r .state)) (configPage (r .state .config))
 doneBy GetWindow c r = granted (windowNo (r .state .window)) []
-doneBy ReadLatency c r = granted 0 (padded (latencyPage r) (offset c) (dwords c * 4))
+doneBy ReadLatency c r = granted 0 (padded (latencyPage r) (offset c) (dwords c * dwordSize))
 doneBy ReadAggregate c r = granted 0 []
 doneBy Identify c r = granted 0 []
 
@@ -64,7 +65,7 @@ named k c given room =
       done = doneBy k c;
     }
 
--- whether it names a set, and which
+-- whether it names a set, and which: "The items that name a set are events other than ticks, feature commands and reads of 0Ah"
 abbrev pub isNamed : Kind → Bool
 isNamed SetConfig = true
 isNamed SetWindow = true
@@ -94,7 +95,7 @@ viewed k c given room page =
     record { early = λ card. earlyLines c ++ shortLine k c given room ∷ []; done = λ card. granted 0 (page card) }
 
 abbrev pub aggregateOf : Command → Card → List ℕ
-aggregateOf c card = padded (aggregatePage (listedIds (card .sets))) (offset c) (dwords c * 4)
+aggregateOf c card = padded (aggregatePage (listedIds (card .sets))) (offset c) (dwords c * dwordSize)
 
 abbrev pub setListOf : Command → Card → List ℕ
 setListOf c card = identifyPage (asked c) (map (λ r. r .attributes) (card .sets))

@@ -26,7 +26,7 @@ use Rattle.card.specs.Lists.{nth, keep, beside, join}
 use Rattle.card.specs.Items.{Card, Item, reads, writes, excursion, tick, command, All, View, Meaning, Nobody, Everybody, The}
 use Rattle.commands.specs.declared.Kind.{Kind}
 use Rattle.commands.specs.declared.Kind.the-variants.{SetConfig, SetWindow, GetConfig, GetWindow, ReadLatency, ReadAggregate, Identify}
-use Rattle.commands.specs.Commands.{commandIn, kindOf, featureSet, enable, windowValue, offset, dwords}
+use Rattle.commands.specs.Commands.{dwordSize, commandIn, kindOf, featureSet, enable, windowValue, offset, dwords}
 use Rattle.card.specs.Commanded.{isNamed, namedBy}
 use Rattle.card.specs.Meanings.{meaning}
 use Rattle.card.specs.Card.{effectOn, ruled, statusOf, names, answer, step, run, trace}
@@ -201,7 +201,7 @@ AggregateLog =
     (c : Card) (items : List Item) (bytes given : List ℕ) (room : ℕ) → kindOf (commandIn bytes) ≡ ReadAggregate
     → statusOf (run c items) (command bytes given room) ≡ 0
     → answer (run c items) (command bytes given room)
-    ≡ granted 0 (padded (aggregatePage (pendingIds c items)) (offset (commandIn bytes)) (dwords (commandIn bytes) * 4))
+    ≡ granted 0 (padded (aggregatePage (pendingIds c items)) (offset (commandIn bytes)) (dwords (commandIn bytes) * dwordSize))
 
 -- "rising"
 abbrev pub Rising : ℕ → List ℕ → Type 0

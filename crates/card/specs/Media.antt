@@ -1,4 +1,4 @@
--- The media layer's events as items, for the functions of src/media.rt.
+-- The media layer's events: the item that each is, and its rule.
 use Prim.Native.Nat.{ℕ}
 use Rattle.record.specs.declared.Attributes.{Attributes}
 use Rattle.record.specs.declared.State.{State}

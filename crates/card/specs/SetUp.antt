@@ -40,7 +40,7 @@ attributesFrom bytes at (suc n) = attributesIn bytes at ∷ attributesFrom bytes
 abbrev pub bodies : List ℕ → ℕ
 bodies bytes = length bytes / bodySize
 
--- attributes in range, the identifier above the one before
+-- attributes in range, the identifier above the one before: only for the function that tests one body
 abbrev pub followsOf : ℕ → Attributes → Bool
 followsOf before a = legalAttributes a && ltb before (a .id .0)
 

@@ -6,6 +6,8 @@ use lib.Dec.{eqb}
 use lib.ListN.{length}
 use Rattle.octets.specs.Choice.{if_then_else_}
 use Rattle.octets.specs.Octets.{padded}
+use Rattle.record.specs.declared.Window.the-variants.{D}
+use Rattle.record.specs.Window.{windowNo}
 use Rattle.rules.specs.declared.Cause.{Cause}
 use Rattle.rules.specs.declared.Cause.the-variants.{SelectD, SelectN}
 use Rattle.pages.specs.Numbers.{numberAt}
@@ -21,11 +23,15 @@ use Rattle.commands.specs.declared.Kind.the-variants.{SetConfig, SetWind
 abbrev pub commandSize : ℕ
 commandSize = 64
 
+-- a dword's bytes
+abbrev pub dwordSize : ℕ
+dwordSize = 4
+
 -- dword k of a command
 abbrev pub dwordAt : List ℕ → ℕ → ℕ
-dwordAt bytes k = numberAt bytes (4 * k) 4
+dwordAt bytes k = numberAt bytes (dwordSize * k) dwordSize
 
--- the dwords of 64 bytes
+-- of 64 bytes, the dwords that are looked at: "Reserved bits are ignored. NSID isn't read."
 abbrev pub dwordsOf : Bool → List ℕ → Command
 dwordsOf whole bytes =
     record {
@@ -51,17 +57,29 @@ bits hi lo x = x / 2 ^ lo % 2 ^ suc (hi - lo)
 abbrev pub opcode : Command → ℕ
 opcode c = bits 7 0 (c .cdw0)
 
+abbrev pub logOpcode : ℕ
+logOpcode = 0x02
+
+abbrev pub identifyOpcode : ℕ
+identifyOpcode = 0x06
+
+abbrev pub setOpcode : ℕ
+setOpcode = 0x09
+
+abbrev pub getOpcode : ℕ
+getOpcode = 0x0A
+
 abbrev pub isLog : Command → Bool
-isLog c = eqb (opcode c) 0x02
+isLog c = eqb (opcode c) logOpcode
 
 abbrev pub isIdentify : Command → Bool
-isIdentify c = eqb (opcode c) 0x06
+isIdentify c = eqb (opcode c) identifyOpcode
 
 abbrev pub isSet : Command → Bool
-isSet c = eqb (opcode c) 0x09
+isSet c = eqb (opcode c) setOpcode
 
 abbrev pub isGet : Command → Bool
-isGet c = eqb (opcode c) 0x0A
+isGet c = eqb (opcode c) getOpcode
 
 -- ---- "Features: FID in CDW10 7:0; Save in CDW10 bit 31 (Set); Select in CDW10 10:8 (Get). CDW11 15:0 is the set."
 
@@ -90,7 +108,7 @@ abbrev pub causeBy : Bool → Cause
 causeBy d = if d then SelectD else SelectN
 
 abbrev pub windowCause : Command → Cause
-windowCause c = causeBy (eqb (windowValue c) 1)
+windowCause c = causeBy (eqb (windowValue c) (windowNo D))
 
 -- ---- "Log: CDW10 7:0 page, bit 15 Retain, 31:16 low count; CDW11 15:0 high count, 31:16 set for 0Ah; CDW12 and CDW13 low
 -- and high byte offset. Dwords moved are count + 1."
@@ -111,7 +129,7 @@ offset c = c .cdw12 + 2 ^ 32 * c .cdw13
 abbrev pub asked : Command → ℕ
 asked c = bits 15 0 (c .cdw11)
 
--- ---- the numbers that are listed
+-- ---- the numbers that are listed: features 13h and 14h, pages 0Ah and 0Bh, Identify 04h
 
 abbrev pub configFid : ℕ
 configFid = 0x13
@@ -142,7 +160,7 @@ kindOf c = kindBy (isSet c) (isGet c) (isLog c) (eqb (chosen c) configFid) (eqb 
 
 -- ---- how many bytes it needs
 
--- of data in
+-- of data in: "512 data bytes" of 13h
 abbrev pub needsIn : Kind → ℕ
 needsIn SetConfig = featureSize
 needsIn SetWindow = 0
@@ -152,17 +170,18 @@ needsIn ReadLatency = 0
 needsIn ReadAggregate = 0
 needsIn Identify = 0
 
--- of room in the answer buffer
+-- of room in the answer buffer: "Get returns enable with the 512 bytes"; of a log read "Dwords moved are count + 1", past the page's end
+-- too; "Identify 04h, 4,096 bytes"
 abbrev pub needsOut : Kind → Command → ℕ
 needsOut SetConfig c = 0
 needsOut SetWindow c = 0
 needsOut GetConfig c = featureSize
 needsOut GetWindow c = 0
-needsOut ReadLatency c = dwords c * 4
-needsOut ReadAggregate c = dwords c * 4
+needsOut ReadLatency c = dwords c * dwordSize
+needsOut ReadAggregate c = dwords c * dwordSize
 needsOut Identify c = identifySize
 
--- the size of the log page that is read
+-- the "page size" of a log read: "0Ah, 512 bytes", "0Bh, 72 bytes"
 abbrev pub logSize : Kind → ℕ
 logSize SetConfig = 0
 logSize SetWindow = 0

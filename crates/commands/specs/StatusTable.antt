@@ -6,36 +6,41 @@ use Prim.Native.Nat.{ℕ, _%_}
 use lib.Dec.{ltb, eqb}
 use Rattle.record.specs.declared.Attributes.{Attributes}
 use Rattle.record.specs.declared.State.{State}
-use Rattle.record.specs.Window.{byWindow}
+use Rattle.record.specs.declared.Window.the-variants.{D, N}
+use Rattle.record.specs.Window.{byWindow, windowNo}
 use Rattle.replies.specs.Numbers.{badCommandLength, invalidOpcode, invalidField, invalidLogPage, notSaveable, tooShort, tooEarly}
 use Rattle.replies.specs.Status.{Line, line}
 use Rattle.rules.specs.Rules as rules
 use Rattle.commands.specs.declared.Command.{Command}
 use Rattle.commands.specs.declared.Kind.{Kind}
 use Rattle.commands.specs.declared.Kind.the-variants.{SetConfig, SetWindow, GetConfig, GetWindow, ReadLatency, ReadAggregate, Identify}
-use Rattle.commands.specs.Commands.{isLog, isIdentify, isSet, isGet, chosen, save, select, windowValue, windowCause, dwords, offset, configFid, windowFid, latencyPageNo, aggregatePageNo, setListCns, kindOf, needsIn, needsOut, logSize}
+use Rattle.commands.specs.Commands.{dwordSize, isLog, isIdentify, isSet, isGet, chosen, save, select, windowValue, windowCause, dwords, offset, configFid, windowFid, latencyPageNo, aggregatePageNo, setListCns, kindOf, needsIn, needsOut, logSize}
 
 -- "over 1,024 dwords"
 abbrev pub dwordsMaximum : ℕ
 dwordsMaximum = 1024
 
+-- "opcode not listed"
 abbrev pub opcodeListed : Command → Bool
 opcodeListed c = isLog c || isIdentify c || isSet c || isGet c
 
+-- "FID or CNS not listed"
 abbrev pub fidListed : Command → Bool
 fidListed c = eqb (chosen c) configFid || eqb (chosen c) windowFid
 
 abbrev pub cnsListed : Command → Bool
 cnsListed c = eqb (chosen c) setListCns
 
+-- "log page not listed"
 abbrev pub pageListed : Command → Bool
 pageListed c = eqb (chosen c) latencyPageNo || eqb (chosen c) aggregatePageNo
 
 -- "offset not a multiple of 4 or greater than page size; over 1,024 dwords"
 abbrev pub partWrong : Command → Bool
-partWrong c = not (eqb (offset c % 4) 0) || ltb (logSize (kindOf c)) (offset c) || ltb dwordsMaximum (dwords c)
+partWrong c = not (eqb (offset c % dwordSize) 0) || ltb (logSize (kindOf c)) (offset c) || ltb dwordsMaximum (dwords c)
 
--- the rows before the set is looked up
+-- the rows before the set is looked up: "command not of 64 bytes", "opcode not listed", "FID or CNS not listed", "log page not listed",
+-- "Set Features with Save", "Select not 0; offset .."
 abbrev pub earlyLines : Command → List Line
 earlyLines c =
     line (not (c .whole)) badCommandLength
@@ -74,13 +79,14 @@ isOff s = byWindow (s .window) true false false
 
 -- "14h while off; window not 1 or 2 (Set)"
 abbrev pub windowWrong : Kind → Command → State → Bool
-windowWrong k c s = about14 k && isOff s || stores14 k && not (eqb (windowValue c) 1 || eqb (windowValue c) 2)
+windowWrong k c s = about14 k && isOff s || stores14 k && not (eqb (windowValue c) (windowNo D) || eqb (windowValue c) (windowNo N))
 
 -- "data in or answer buffer shorter than needed"
 abbrev pub shortLine : Kind → Command → ℕ → ℕ → Line
 shortLine k c given room = line (ltb given (needsIn k) || ltb room (needsOut k c)) tooShort
 
--- the rows after it
+-- the rows after it: "14h while off; window not 1 or 2 (Set)", "data in or answer buffer shorter than needed",
+-- "select D from N too early"
 abbrev pub lateLines : Kind → Command → ℕ → ℕ → Attributes → State → List Line
 lateLines k c given room a s =
     line (windowWrong k c s) invalidField

@@ -37,13 +37,22 @@ const SET: [u64; ROW] = [
     0,
 ];
 
-// The row with another word at a place.
-fn other(at: usize, value: u64) -> [u64; ROW] {
-    let mut row = SET;
+// A row with another word at a place.
+fn with(row: [u64; ROW], at: usize, value: u64) -> [u64; ROW] {
+    let mut other = row;
     if at < ROW {
-        row[at] = value;
+        other[at] = value;
     }
-    row
+    other
+}
+
+fn other(at: usize, value: u64) -> [u64; ROW] {
+    with(SET, at, value)
+}
+
+// The row in another window, with nothing spent.
+fn unspent(window: u64) -> [u64; ROW] {
+    with(with(with(other(13, window), 18, 0), 19, 0), 20, 0)
 }
 
 fn show(number: u64, status: u16, before: [u64; ROW], after: [u64; ROW]) {
@@ -74,6 +83,20 @@ fn others() {
     try_event(304, other(14, 0), Media::Excursion);
 }
 
+// In N and off nothing changes.
+fn outside_d() {
+    try_event(501, unspent(2), Media::Reads(5));
+    try_event(502, unspent(0), Media::Excursion);
+}
+
+// Older events stay; a warning that is not enabled is none; a warning of writes; as many reads as can be reported.
+fn more() {
+    try_event(601, with(other(22, 0x4002), 23, 1), Media::Reads(11));
+    try_event(602, other(14, 0xC006), Media::Reads(11));
+    try_event(603, other(16, 2), Media::Writes(1));
+    try_event(604, SET, Media::Reads(65535));
+}
+
 // One read more than a set has, a mark with no event, no identifier.
 fn not_legal() {
     try_event(401, other(18, 101), Media::Reads(1));
@@ -85,4 +108,6 @@ pub fn run() {
     reads();
     others();
     not_legal();
+    outside_d();
+    more();
 }

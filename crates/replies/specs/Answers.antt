@@ -3,7 +3,7 @@ use mathlib.Core.Path.{_≡_}
 use mathlib.Core.List.{List, []}
 use Prim.Native.Nat.{ℕ, _-_, _≤_}
 use lib.Dec.{eqb}
-use lib.ListN.{length, take}
+use lib.ListN.{length, take, drop}
 use lib.Seq.{sets}
 use Rattle.octets.specs.Choice.{if_then_else_}
 use Rattle.replies.specs.declared.Reply.{Reply}
@@ -30,9 +30,9 @@ answered status dword bytes = if eqb status 0 then granted dword bytes else refu
 abbrev pub refusing : ℕ → Reply
 refusing status = record { status = status; dword = 0; len = 0 }
 
--- the part `&mut buffer[0..n]` of a buffer, as code makes it
-abbrev pub cut : List ℕ → ℕ → List ℕ
-cut buffer n = take (n - 0) buffer
+-- the part `buffer[from..to]` of a buffer
+abbrev pub cut : List ℕ → ℕ → ℕ → List ℕ
+cut buffer from to = take (to - from) (drop from buffer)
 
 -- 01: "Data is handed back as that part of the caller's buffer which was written; bytes after it are untouched,
 -- and a success without data writes none."
@@ -43,4 +43,4 @@ pub record Replied (a : Answer) (before : List ℕ) (r : Reply) (after : List �
   pub len : r .len ≡ length (a .bytes)
   pub within : r .len ≤ length after
   pub buffer : after ≡ sets before 0 (a .bytes)
-  pub part : cut after (r .len) ≡ a .bytes
+  pub part : cut after 0 (r .len) ≡ a .bytes

@@ -72,10 +72,10 @@ played-plain ws i line₀ words line n status a s p =
 pub played-command :
     (ws : List ℕ) (i : Item) (buffer handed : List ℕ) (r : Reply) (line₀ words line : List ℕ) (n : ℕ)
     → Answered ws i buffer r words handed
-    → Put line₀ 0 (itemLine (record { status = r .status; dword = r .dword; bytes = cut handed (r .len) })) line n → Played ws (some i) line₀ n words line
+    → Put line₀ 0 (itemLine (record { status = r .status; dword = r .dword; bytes = cut handed 0 (r .len) })) line n → Played ws (some i) line₀ n words line
 played-command ws i buffer handed r line₀ words line n a p =
     let q = a .reply in
-    played ws i line₀ words line n (r .status) (r .dword) (cut handed (r .len)) (a .table) (q .status) (q .dword) (q .part) p
+    played ws i line₀ words line n (r .status) (r .dword) (cut handed 0 (r .len)) (a .table) (q .status) (q .dword) (q .part) p
 
 pub played-as :
     (ws : List ℕ) (i j : Item) (line₀ : List ℕ) (n : ℕ) (words line : List ℕ) → i ≡ j → Played ws (some i) line₀ n words line → Played ws (some j) line₀ n words line

@@ -3,12 +3,13 @@ use mathlib.Core.Path.{_≡_}
 use mathlib.Core.Bool.{Bool, _&&_}
 use mathlib.Core.List.{List, [], _∷_}
 use mathlib.Core.Option.{Option, none, some}
-use Prim.Native.Nat.{ℕ}
+use Prim.Native.Nat.{ℕ, _+_}
 use lib.Dec.{eqb, ltb, leb}
 use lib.ListN.{length, getD, take, drop}
 use lib.Seq.{sets}
 use Rattle.octets.specs.Choice.{if_then_else_}
 use Rattle.pages.specs.Numbers.{numberAt}
+use Rattle.pages.specs.Features.{featureSize}
 use Rattle.pages.specs.Bodies.{bodySize as setBodySize}
 use Rattle.commands.specs.Commands.{commandSize}
 use Rattle.card.specs.Items.{Item, reads, writes, excursion, tick, command}
@@ -17,7 +18,7 @@ use Rattle.tape.specs.Text.{itemLine}
 use Rattle.tape.specs.declared.Next.{Next}
 use Rattle.tape.specs.declared.Next.the-variants.{Whole, Short, Bad, Over}
 
--- kinds of items; 01h and 02h are commands, and 05h, the excursion, is what is left
+-- kinds of items: 01h and 02h, those below reads, are commands; 05h, the excursion, is the one that is left
 abbrev pub readsKind : ℕ
 readsKind = 3
 
@@ -30,7 +31,7 @@ tickKind = 6
 -- how long an item's body is, by its kind; 0 where the kind is none of an item's:
 -- "01h command, 64 bytes; 02h command with data, 576; 03h reads and 04h writes, set and count, 4; 05h excursion, 2; 06h tick, 4"
 abbrev pub bodySizes : List ℕ
-bodySizes = 0 ∷ 64 ∷ 576 ∷ 4 ∷ 4 ∷ 2 ∷ 4 ∷ []
+bodySizes = 0 ∷ commandSize ∷ (commandSize + featureSize) ∷ 4 ∷ 4 ∷ 2 ∷ 4 ∷ []
 
 abbrev pub bodySize : ℕ → ℕ
 bodySize kind = getD bodySizes kind 0

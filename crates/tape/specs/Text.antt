@@ -64,9 +64,16 @@ endWord = 101 ∷ 110 ∷ 100 ∷ space ∷ []
 abbrev pub badWord : List ℕ
 badWord = 98 ∷ 97 ∷ 100 ∷ space ∷ []
 
+-- four digits of a status number, as in "SSSS"; eight of a dword
+abbrev pub statusDigits : ℕ
+statusDigits = 4
+
+abbrev pub dwordDigits : ℕ
+dwordDigits = 8
+
 -- "sets N SSSS"
 abbrev pub setsLine : ℕ → ℕ → List ℕ
-setsLine n status = setsWord ++ decimalOf n ++ (space ∷ []) ++ hexOf 4 status ++ newline ∷ []
+setsLine n status = setsWord ++ decimalOf n ++ (space ∷ []) ++ hexOf statusDigits status ++ newline ∷ []
 
 -- "end N", "bad N"
 abbrev pub endLine : ℕ → List ℕ
@@ -81,7 +88,7 @@ dataText [] = []
 dataText (b ∷ bs) = (space ∷ []) ++ dataHex (b ∷ bs)
 
 abbrev pub itemLine : Answer → List ℕ
-itemLine a = hexOf 4 (a .status) ++ (space ∷ []) ++ hexOf 8 (a .dword) ++ dataText (a .bytes) ++ newline ∷ []
+itemLine a = hexOf statusDigits (a .status) ++ (space ∷ []) ++ hexOf dwordDigits (a .dword) ++ dataText (a .bytes) ++ newline ∷ []
 
 -- text put into bytes at a place: the bytes afterwards, and the place after it
 pub record Put (before : List ℕ) (at : ℕ) (text after : List ℕ) (next : ℕ) : Type 0 where
