@@ -13,7 +13,7 @@ use lib.ListN.{length, getD, take, drop, length-append, length-take, length-drop
 use lib.Seq.{sets, sets-eq, length-sets, length-take-le, take-all, take-at, take-suc, drop-drop}
 use Rattle.octets.specs.Choice.{if_then_else_}
 use Rattle.octets.specs.Octets.{padded}
-use Rattle.octets.proofs.Runs.{sets-append}
+use Rattle.octets.proofs.Runs.{sets-append, padded-whole}
 use Rattle.record.specs.declared.Attributes.{Attributes}
 use Rattle.record.specs.Legal.{maxSets}
 use Rattle.replies.specs.Numbers.{badSetUp}
@@ -22,7 +22,6 @@ use Rattle.pages.specs.Bodies.{bodySize, body, attributesIn}
 use Rattle.pages.proofs.Back.{body-length}
 use Rattle.card.specs.Words.{Result}
 use Rattle.card.specs.SetUp.{bodies, setUpStatus, setUp, SetUp}
-use Rattle.card.proofs.Passing.{padded-all}
 use Rattle.by_reference.specs.Buffer.{withBody, firstBodies}
 use Rattle.by_reference.specs.Lists.{bodiesOf}
 
@@ -40,7 +39,7 @@ stored-from l vs a h =
 stored-page :
     (l page r : List ℕ) (a n : ℕ) → length page ≡ n → a + n ≤ length l
     → r ≡ sets (take (length l - a) (drop a l)) 0 (padded page 0 n) → putMid a (length l - a) l r ≡ sets l a page
-stored-page l page r a n e h er = rw (er, ← e, padded-all page) (stored-from l page a (rw e h))
+stored-page l page r a n e h er = rw (er, padded-whole page n e) (stored-from l page a (rw e h))
 
 module _ (bytes : List ℕ) (i : ℕ) (a : Attributes) where
   pub body-put :

@@ -2,12 +2,13 @@
 use mathlib.Core.Path.{_≡_, refl, sym, ap, _∙_}
 use mathlib.Core.Bool.{Bool, true, false, not, _&&_, _||_}
 use mathlib.Core.List.{List, [], _∷_, _++_}
-use Prim.Native.Nat.{ℕ, zero, suc, _%_, _≤_}
+use Prim.Native.Nat.{ℕ, _%_, _≤_}
 use native.Mathlib.Omega.{arith}
 use borrow.Author.Tests.{ltb-false}
 use lib.Dec.{ltb, eqb, lit≤}
-use lib.ListN.{length, getD}
+use lib.ListN.{length}
 use Rattle.octets.specs.Octets.{padded}
+use Rattle.octets.proofs.Runs.{padded-whole}
 use Rattle.record.specs.declared.Attributes.{Attributes}
 use Rattle.record.specs.declared.State.{State}
 use Rattle.record.specs.declared.Record.{Record}
@@ -116,14 +117,6 @@ identify-fine c given room s e z = view-room Identify c given room s e z .1
 
 -- ---- the answer as it is handed out
 
-padded-on : (x : ℕ) (xs : List ℕ) (at n : ℕ) → padded (x ∷ xs) (suc at) n ≡ padded xs at n
-padded-on x xs at zero = refl
-padded-on x xs at (suc n) = ap (getD xs at 0 ∷_) (padded-on x xs (suc at) n)
-
-pub padded-all : (l : List ℕ) → padded l 0 (length l) ≡ l
-padded-all [] = refl
-padded-all (x ∷ xs) = ap (x ∷_) (padded-on x xs 0 (length xs) ∙ padded-all xs)
-
 pub page-long : (k : Kind) (r : Record) → length (pageBy k r) ≡ latencySize
 unfolding configPage latencyPage
 page-long SetConfig r = refl
@@ -134,15 +127,12 @@ page-long ReadLatency r = length-place latencySize (latencyFields r)
 page-long ReadAggregate r = refl
 page-long Identify r = refl
 
-whole-page : (l : List ℕ) → length l ≡ latencySize → padded l 0 latencySize ≡ l
-whole-page l e = ap (λ (n : ℕ). padded l 0 n) (sym e) ∙ padded-all l
-
 pub done-is :
     (k : Kind) (c : Command) (r : Record) → isNamed k ≡ true
     → granted (dwordBy k r) (padded (pageBy k r) (fromBy k c) (needsOut k c)) ≡ doneBy k c r
 done-is SetConfig c r e = refl
 done-is SetWindow c r e = refl
-done-is GetConfig c r e = ap (granted (modeNo (r .state))) (whole-page (configPage (r .state .config)) (page-long GetConfig r))
+done-is GetConfig c r e = ap (granted (modeNo (r .state))) (padded-whole (configPage (r .state .config)) latencySize (page-long GetConfig r))
 done-is GetWindow c r e = refl
 done-is ReadLatency c r e = refl
 done-is ReadAggregate c r e = absurd (let z : _≡_ {A = ℕ} 0 1 = cc in omega arith)

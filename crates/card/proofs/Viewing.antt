@@ -6,6 +6,7 @@ use Prim.Native.Nat.{ℕ}
 use lib.Dec.{eqb}
 use lib.ListN.{length}
 use Rattle.octets.specs.Octets.{padded}
+use Rattle.octets.proofs.Runs.{padded-whole}
 use Rattle.replies.specs.declared.Reply.{Reply}
 use Rattle.replies.specs.Status.{firstOf}
 use Rattle.replies.specs.Answers.{Answer, answered, Replied}
@@ -28,7 +29,6 @@ use Rattle.card.specs.Words.{cardOf, Answered}
 use Rattle.card.proofs.Lists.{map-fixed}
 use Rattle.card.proofs.Shapes.{touched-not}
 use Rattle.card.proofs.Frame.{step-legal}
-use Rattle.card.proofs.Passing.{padded-all}
 
 module _ (ws : List ℕ) (i : Item) (k : Kind) (c : Command) (given : ℕ) (before : List ℕ) (page : Card → List ℕ)
     (m : meaning i ≡ Nobody (viewed k c given (length before) page)) (e : legalTable ws ≡ true) where
@@ -60,7 +60,7 @@ pub whole-list : (from : ℕ) (sets : List Attributes) (p : List ℕ) → p ≡ 
 unfolding identifyPage
 whole-list from sets p e =
     let l : length p ≡ identifySize = ap length e ∙ length-place identifySize (identifyFields (shown from sets)) in
-    ap (λ (n : ℕ). padded p 0 n) (sym l) ∙ padded-all p ∙ e
+    padded-whole p identifySize l ∙ e
 
 -- ---- which command it is
 

@@ -1,10 +1,9 @@
 use mathlib.Core.Path.{sym, ap₂, _∙_}
-use native.Mathlib.Omega.{arith}
 use borrow.Author.Needs.{needs}
 use borrow.Author.Tests.{eq-eqb, ne-eqb}
 use lib.ListN.{length, replicate}
 use Rattle.octets.specs.Octets.{padded}
-use Rattle.octets.proofs.Runs.{sets-whole, padded-rest}
+use Rattle.octets.proofs.Runs.{sets-whole, padded-whole}
 use Rattle.replies.proofs.Answering.{length-padded}
 use Rattle.commands.specs.Commands.{commandSize, dwordsOf, commandIn}
 use Rattle.commands.proofs.command_in.Statement.{statement}
@@ -15,7 +14,7 @@ unfolding commandIn
 returns c =
     let b = c .before .before .before .args .bytes .now in
     let e = eq-eqb (length b) commandSize (c .before .if1 .taken) in
-    c .dwords-in .ensures ∙ ap₂ dwordsOf (sym e) (sym (padded-rest b 0 commandSize (omega arith)))
+    c .dwords-in .ensures ∙ ap₂ dwordsOf (sym e) (sym (padded-whole b commandSize (c .before .if1 .taken)))
 
 returns-2 : tie.Need-returns-2
 unfolding commandIn
