@@ -20,8 +20,8 @@ use Rattle.replies.specs.Numbers.{badSetUp}
 use Rattle.replies.specs.Answers.{refused}
 use Rattle.pages.specs.Bodies.{bodySize, body, attributesIn}
 use Rattle.pages.proofs.Back.{body-length}
-use Rattle.card.specs.Words.{Result}
-use Rattle.card.specs.SetUp.{bodies, setUpStatus, setUp, SetUp}
+use Rattle.steps.specs.Words.{Result}
+use Rattle.steps.specs.SetUp.{bodies, setUpStatus, setUp, SetUp}
 use Rattle.by_reference.specs.Buffer.{withBody, firstBodies}
 use Rattle.by_reference.specs.Lists.{bodiesOf}
 

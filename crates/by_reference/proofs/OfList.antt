@@ -8,8 +8,8 @@ use Rattle.octets.specs.Octets.{part}
 use Rattle.record.specs.declared.Attributes.{Attributes}
 use Rattle.pages.specs.Bodies.{bodySize, body, attributesIn, Sized, AllSized}
 use Rattle.pages.proofs.Back.{body-length, body-alone, body-back}
-use Rattle.card.specs.Words.{Result}
-use Rattle.card.specs.SetUp.{newRecord, attributesFrom, newSets}
+use Rattle.steps.specs.Words.{Result}
+use Rattle.steps.specs.SetUp.{newRecord, attributesFrom, newSets}
 use Rattle.by_reference.specs.Lists.{bodiesOf, TheirOwn, TooMany}
 use Rattle.by_reference.proofs.Filled.{bodies-many, refused-many}
 

@@ -5,11 +5,11 @@ use Rattle.record.specs.declared.Record.{Record}
 use Rattle.record.specs.Legal.{KeepsState}
 use Rattle.rules.proofs.Keeps.{keeps-record, read-event-keeps, write-event-keeps, excursion-keeps}
 use Rattle.table.specs.Table.{idOf}
-use Rattle.card.specs.declared.media.Media.{Media}
-use Rattle.card.specs.declared.media.Media.the-variants.{Reads, Writes, Excursion}
-use Rattle.card.specs.Media.{mediaRule}
-use Rattle.card.specs.Card.{effectOn}
-use Rattle.card.proofs.Events.{meaning-media}
+use Rattle.steps.specs.declared.Media.{Media}
+use Rattle.steps.specs.declared.Media.the-variants.{Reads, Writes, Excursion}
+use Rattle.steps.specs.Media.{mediaRule}
+use Rattle.steps.specs.Card.{effectOn}
+use Rattle.steps.proofs.Events.{meaning-media}
 use Rattle.by_reference.specs.Records.{ChargedInPlace, AsTheStep, StaysLegal}
 
 pub as-the-step : AsTheStep

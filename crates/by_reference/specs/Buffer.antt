@@ -7,7 +7,7 @@ use lib.Seq.{sets}
 use Rattle.octets.specs.Choice.{if_then_else_}
 use Rattle.record.specs.declared.Attributes.{Attributes}
 use Rattle.pages.specs.Bodies.{bodySize, body}
-use Rattle.card.specs.SetUp.{bodies}
+use Rattle.steps.specs.SetUp.{bodies}
 
 -- bytes with a body in the i-th place, where there is room for it
 abbrev pub withBody : List ℕ → ℕ → Attributes → List ℕ

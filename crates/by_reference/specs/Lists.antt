@@ -7,7 +7,7 @@ use Rattle.record.specs.declared.Attributes.{Attributes}
 use Rattle.record.specs.Legal.{maxSets}
 use Rattle.replies.specs.Numbers.{badSetUp}
 use Rattle.pages.specs.Bodies.{body, AllSized}
-use Rattle.card.specs.SetUp.{newRecord, newSets, SetUp}
+use Rattle.steps.specs.SetUp.{newRecord, newSets, SetUp}
 
 -- the bodies of a list, one after another
 abbrev pub bodiesOf : List Attributes → List ℕ

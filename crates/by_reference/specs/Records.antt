@@ -7,10 +7,10 @@ use Rattle.replies.specs.Numbers.{badTable}
 use Rattle.record.specs.declared.Record.{Record}
 use Rattle.record.specs.Events.{settled}
 use Rattle.record.specs.Legal.{legalRecord}
-use Rattle.card.specs.declared.media.Media.{Media}
+use Rattle.steps.specs.declared.Media.{Media}
 use Rattle.table.specs.Table.{idOf}
-use Rattle.card.specs.Media.{itemOf, mediaRule}
-use Rattle.card.specs.Card.{ruled}
+use Rattle.steps.specs.Media.{itemOf, mediaRule}
+use Rattle.steps.specs.Card.{ruled}
 use Rattle.by_reference.specs.declared.records.Charged.{Charged}
 
 -- the record after an event and the status number: 07C3h for one that is not legal, which stays as it is

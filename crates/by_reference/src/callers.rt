@@ -1,15 +1,15 @@
 // One caller of each function over a reference, with plain parameters: a program that calls these needs no proof by hand.
 ghost use mathlib.Core.Path.{_≡_};
 ghost use mathlib.Core.List.{[], _∷_};
-ghost use Rattle.card.specs.SetUp.{SetUp};
+ghost use Rattle.steps.specs.SetUp.{SetUp};
 ghost use Rattle.by_reference.specs.Lists.{bodiesOf};
 ghost use Rattle.by_reference.specs.Records.{charged};
 use crate::lists::set_up;
 use crate::records::Charged;
 use crate::records::charge;
-use card::media::Media;
 use record::Attributes;
 use record::Record;
+use steps::Media;
 
 // A copy is lent.
 pub fn charge_lent(r: Record, m: Media) -> Charged

@@ -1,6 +1,6 @@
 // Set-up takes a lent list of attribute records.
 ghost use mathlib.Core.Path.{_≡_};
-ghost use Rattle.card.specs.SetUp.{SetUp};
+ghost use Rattle.steps.specs.SetUp.{SetUp};
 ghost use Rattle.by_reference.specs.Buffer.{withBody, firstBodies};
 ghost use Rattle.by_reference.specs.Lists.{bodiesOf};
 use card::setting::BODY;

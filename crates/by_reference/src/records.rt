@@ -1,10 +1,10 @@
 // The media layer charges one lent record in place.
 ghost use mathlib.Core.Path.{_≡_};
 ghost use Rattle.by_reference.specs.Records.{charged, ChargedInPlace};
-use card::media::Media;
 use card::media::after_event;
 use record::Record;
 use record::legal::record_legal;
+use steps::Media;
 
 // A record after an event, and the status number.
 pub struct Charged {

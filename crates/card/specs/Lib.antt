@@ -1,12 +1,1 @@
-pub mod Lists
-pub mod Items
-pub mod Commanded
-pub mod Meanings
-pub mod Card
-pub mod Words
-pub mod OnSet
-pub mod Views
-pub mod Media
-pub mod SetUp
 pub mod Page
-pub mod Demands

@@ -4,9 +4,9 @@ ghost use mathlib.Core.List.{map};
 ghost use Rattle.record.specs.Events.{settled};
 ghost use Rattle.rules.specs.Rules.{tick};
 ghost use Rattle.table.specs.Table.{count, Legal, recordsOf, written};
-ghost use Rattle.card.specs.Items.{Item};
-ghost use Rattle.card.specs.Media.{mediaRule, itemOf, tickOne};
-ghost use Rattle.card.specs.Words.{Stepped};
+ghost use Rattle.steps.specs.Items.{Item};
+ghost use Rattle.steps.specs.Media.{mediaRule, itemOf, tickOne};
+ghost use Rattle.steps.specs.Words.{Stepped};
 use record::Attributes;
 use record::Effect;
 use record::Record;
@@ -18,18 +18,12 @@ use rules::excursion_event;
 use rules::read_event;
 use rules::tick_event;
 use rules::write_event;
+use steps::Media;
 use table::Entry;
 use table::enter;
 use table::legal;
 use table::load;
 use table::store;
-
-// What the media layer reports of one set.
-pub enum Media {
-    Reads(u16),
-    Writes(u16),
-    Excursion,
-}
 
 fn effect_of(a: Attributes, s: State, m: Media) -> Effect
     ensures { λ r. ⌜ r ≡ mediaRule m a s ⌝ }

@@ -6,7 +6,7 @@ ghost use Prim.Native.Nat.{_+_, _*_, _≤_};
 ghost use lib.ListN.{length};
 ghost use Rattle.table.specs.Table.{rowStart, legalSets, written};
 ghost use Rattle.pages.specs.Bodies.{bodySize};
-ghost use Rattle.card.specs.SetUp.{newState, newRecord, followsOf, attributesFrom, setUpStatus, SetUp};
+ghost use Rattle.steps.specs.SetUp.{newState, newRecord, followsOf, attributesFrom, setUpStatus, SetUp};
 use pages::bodies::attributes_in;
 use record::Attributes;
 use record::Config;

@@ -3,11 +3,11 @@ use mathlib.Core.Path.{_≡_, sym, ap, _∙_}
 use mathlib.Core.List.{List}
 use Prim.Native.Nat.{ℕ}
 use lib.ListN.{length}
-use Rattle.card.specs.Items.{Item}
-use Rattle.card.specs.Words.{Result, stepWords}
-use Rattle.card.specs.SetUp.{setUp}
-use Rattle.card.proofs.OnWords.{refused-words}
-use Rattle.card.proofs.Exact.{exactly-words, set-up-refused, set-up-exactly}
+use Rattle.steps.specs.Items.{Item}
+use Rattle.steps.specs.Words.{Result, stepWords}
+use Rattle.steps.specs.SetUp.{setUp}
+use Rattle.steps.proofs.OnWords.{refused-words}
+use Rattle.steps.proofs.Exact.{exactly-words, set-up-refused, set-up-exactly}
 use Rattle.card_c.specs.Entries.{tableIn, tableOut, EventAtC, SetUpAtC, CommandAtC}
 use Rattle.card_c.specs.Demands.{RefusedEvent, RefusedSetUp, RefusedCommand}
 use Rattle.card_c.proofs.Region.{own-region}

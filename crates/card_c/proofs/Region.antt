@@ -20,13 +20,13 @@ use Rattle.replies.specs.declared.Reply.{Reply}
 use Rattle.replies.specs.Answers.{Answer, Replied}
 use Rattle.table.specs.Table.{count, rowStart, roomFor, sized, extentOf}
 use Rattle.table.proofs.Known.{sized-known, sized-empty}
-use Rattle.card.specs.Items.{Item}
-use Rattle.card.specs.Words.{Result, stepWords, Stepped, Answered}
-use Rattle.card.specs.SetUp.{bodies, setUp, SetUp}
-use Rattle.card.proofs.Shapes.{bool-cases}
-use Rattle.card.proofs.OnWords.{refused-words}
-use Rattle.card.proofs.Exact.{exactly-words, set-up-refused, set-up-exactly}
-use Rattle.card.proofs.Past.{beside, step-unsized, step-past, length-step, set-up-past, length-set-up}
+use Rattle.steps.specs.Items.{Item}
+use Rattle.steps.specs.Words.{Result, stepWords, Stepped, Answered}
+use Rattle.steps.specs.SetUp.{bodies, setUp, SetUp}
+use Rattle.steps.proofs.Shapes.{bool-cases}
+use Rattle.steps.proofs.OnWords.{refused-words}
+use Rattle.steps.proofs.Exact.{exactly-words, set-up-refused, set-up-exactly}
+use Rattle.steps.proofs.Past.{beside, step-unsized, step-past, length-step, set-up-past, length-set-up}
 use Rattle.card_c.specs.Entries.{tableIn, tableOut, EventAtC, SetUpAtC, replyPart, CommandAtC}
 use Rattle.card_c.specs.declared.lent.Report.{Report}
 use Rattle.card_c.specs.Lent.{itemBy, TakenOut, backBy, Extent, AnswerAtC}

@@ -6,7 +6,7 @@ use Prim.Native.Nat.{ℕ}
 use lib.ListN.{length}
 use lib.Seq.{sets}
 use Rattle.octets.specs.Octets.{AllBytes}
-use Rattle.card.specs.Items.{Item}
+use Rattle.steps.specs.Items.{Item}
 use Rattle.card_c.specs.Entries.{EventAtC, SetUpAtC, CommandAtC, replyPart}
 
 abbrev pub RefusedEvent : Type 0

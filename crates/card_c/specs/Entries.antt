@@ -8,9 +8,9 @@ use lib.Seq.{sets}
 use Rattle.octets.specs.Octets.{padded}
 use Rattle.octets.specs.Pages.{field, place}
 use Rattle.octets.specs.Words.{wordSize, wordsFrom, putWords}
-use Rattle.card.specs.Items.{Item}
-use Rattle.card.specs.Words.{stepWords}
-use Rattle.card.specs.SetUp.{setUp}
+use Rattle.steps.specs.Items.{Item}
+use Rattle.steps.specs.Words.{stepWords}
+use Rattle.steps.specs.SetUp.{setUp}
 
 -- the words of a region: of a length that is no multiple of 8 the whole words count, and the rest is past the table
 abbrev pub tableIn : List ℕ → List ℕ

@@ -10,9 +10,9 @@ use Rattle.replies.specs.declared.Reply.{Reply}
 use Rattle.replies.specs.Answers.{Replied}
 use Rattle.record.specs.Legal.{maxSets}
 use Rattle.table.specs.Table.{count, rowStart, extentOf}
-use Rattle.card.specs.Items.{Item, tick}
-use Rattle.card.specs.Media.{itemOf}
-use Rattle.card.specs.Words.{stepWords}
+use Rattle.steps.specs.Items.{Item, tick}
+use Rattle.steps.specs.Media.{itemOf}
+use Rattle.steps.specs.Words.{stepWords}
 use Rattle.card_c.specs.declared.lent.Report.{Report}
 use Rattle.card_c.specs.declared.lent.Report.the-variants.{OfSet, Tick}
 use Rattle.card_c.specs.Entries.{tableIn, tableOut}

@@ -3,14 +3,14 @@ mod lent;
 mod reply;
 
 ghost use lib.ListN.{length};
-ghost use Rattle.card.specs.Items.{Item};
+ghost use Rattle.steps.specs.Items.{Item};
 ghost use Rattle.card_c.specs.Entries.{EventAtC, SetUpAtC, CommandAtC};
 use crate::lent::Report;
 use crate::lent::answer_lent;
 use crate::lent::new_table;
 use crate::lent::note;
 use crate::reply::put_reply;
-use card::media::Media;
+use steps::Media;
 
 #[no_mangle]
 pub extern "C" fn card_set_up(table: &mut [u8], bodies: &[u8]) -> u16

@@ -1,10 +1,10 @@
 // A lent record, charged in place.
 use by_reference::callers::charge_lent;
-use card::media::Media;
 use samples::print;
 use samples::print_changes;
 use samples::print_number;
 use samples::print_word;
+use steps::Media;
 use table::rows::ROW;
 use table::rows::record_of;
 use table::rows::words_of;

@@ -3,7 +3,7 @@ use mathlib.Core.Path.{_≡_, sym, _∙_}
 use mathlib.Core.List.{List}
 use mathlib.Core.Option.{Option}
 use Prim.Native.Nat.{ℕ}
-use Rattle.card.specs.Items.{Item}
+use Rattle.steps.specs.Items.{Item}
 use Rattle.tape.specs.Text.{Put}
 use Rattle.tape.specs.Tape.{Played}
 

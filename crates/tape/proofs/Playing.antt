@@ -15,9 +15,9 @@ use Rattle.pages.specs.Numbers.{numberAt}
 use Rattle.replies.specs.declared.Reply.{Reply}
 use Rattle.replies.specs.Answers.{Answer, cut, Replied}
 use Rattle.commands.specs.Commands.{commandSize}
-use Rattle.card.specs.Items.{Item, reads, writes, excursion, tick, command}
-use Rattle.card.specs.Words.{stepWords, Stepped, Answered}
-use Rattle.card.proofs.Plain.{Plain}
+use Rattle.steps.specs.Items.{Item, reads, writes, excursion, tick, command}
+use Rattle.steps.specs.Words.{stepWords, Stepped, Answered}
+use Rattle.steps.proofs.Plain.{Plain}
 use Rattle.tape.specs.Text.{itemLine, Put}
 use Rattle.tape.specs.Tape.{bodySizes, bodySize, attributesKind, attributesSize, answerSize, mediaItem, itemBy, isItem, itemIn, Played, nextBody, nextSet, nextItem}
 use Rattle.tape.specs.declared.Next.{Next}

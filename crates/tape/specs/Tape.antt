@@ -12,8 +12,8 @@ use Rattle.pages.specs.Numbers.{numberAt}
 use Rattle.pages.specs.Features.{featureSize}
 use Rattle.pages.specs.Bodies.{bodySize as setBodySize}
 use Rattle.commands.specs.Commands.{commandSize}
-use Rattle.card.specs.Items.{Item, reads, writes, excursion, tick, command}
-use Rattle.card.specs.Words.{stepWords}
+use Rattle.steps.specs.Items.{Item, reads, writes, excursion, tick, command}
+use Rattle.steps.specs.Words.{stepWords}
 use Rattle.tape.specs.Text.{itemLine}
 use Rattle.tape.specs.declared.Next.{Next}
 use Rattle.tape.specs.declared.Next.the-variants.{Whole, Short, Bad, Over}

@@ -7,20 +7,20 @@ ghost use Prim.Native.Nat.{_<_, _≤_};
 ghost use lib.Dec.{ltb, eqb};
 ghost use lib.ListN.{length, drop};
 ghost use Rattle.pages.specs.Numbers.{numberAt};
-ghost use Rattle.card.specs.Items.{Item};
-ghost use Rattle.card.specs.Media.{itemOf};
+ghost use Rattle.steps.specs.Items.{Item};
+ghost use Rattle.steps.specs.Media.{itemOf};
 ghost use Rattle.tape.specs.Tape.{bodySize, answerSize, mediaItem, itemBy, itemIn, Played, nextBody, nextSet, nextItem};
 use crate::Next;
 use crate::lines::LINE;
 use crate::lines::item_line;
 use card::answering::command;
-use card::media::Media;
 use card::media::event;
 use card::media::ticks;
 use card::setting::BODY;
 use pages::read::short;
 use pages::read::word;
 use record::SetId;
+use steps::Media;
 
 const KINDS: usize = 7;
 

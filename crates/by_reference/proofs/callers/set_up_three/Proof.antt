@@ -48,7 +48,7 @@ use denote.Exit.{yes}
 use Rattle.record.specs.declared.Attributes.{Attributes}
 use Rattle.record.proofs.Attributes as T
 use Rattle.record.proofs.Attributes.Laws as T′
-use Rattle.card.specs.SetUp.{SetUp}
+use Rattle.steps.specs.SetUp.{SetUp}
 use Rattle.by_reference.specs.Lists.{bodiesOf}
 use Rattle.by_reference.proofs.Values.{attributesVal}
 use Rattle.by_reference.proofs.lists.set_up as g

@@ -4,10 +4,10 @@ use borrow.Author.Needs.{needs}
 use lib.ListN.{length}
 use Rattle.table.proofs.Known.{legal-known}
 use Rattle.commands.specs.declared.Kind.the-variants.{ReadAggregate}
-use Rattle.card.specs.Commanded.{aggregateOf}
-use Rattle.card.proofs.Passing.{aggregate-fine}
-use Rattle.card.proofs.Naming.{answered-bad}
-use Rattle.card.proofs.Viewing.{viewed-as}
+use Rattle.steps.specs.Commanded.{aggregateOf}
+use Rattle.steps.proofs.Passing.{aggregate-fine}
+use Rattle.steps.proofs.Naming.{answered-bad}
+use Rattle.steps.proofs.Viewing.{viewed-as}
 use Rattle.card.proofs.answering.answer_aggregate.Statement.{statement}
 use Rattle.card.proofs.answering.answer_aggregate.Tie as tie
 

@@ -4,10 +4,10 @@ use borrow.Author.Needs.{needs}
 use lib.ListN.{length}
 use Rattle.table.proofs.Known.{legal-known}
 use Rattle.commands.specs.declared.Kind.the-variants.{Identify}
-use Rattle.card.specs.Commanded.{setListOf}
-use Rattle.card.proofs.Passing.{identify-fine}
-use Rattle.card.proofs.Naming.{answered-bad}
-use Rattle.card.proofs.Viewing.{viewed-as, whole-list}
+use Rattle.steps.specs.Commanded.{setListOf}
+use Rattle.steps.proofs.Passing.{identify-fine}
+use Rattle.steps.proofs.Naming.{answered-bad}
+use Rattle.steps.proofs.Viewing.{viewed-as, whole-list}
 use Rattle.card.proofs.answering.answer_identify.Statement.{statement}
 use Rattle.card.proofs.answering.answer_identify.Tie as tie
 

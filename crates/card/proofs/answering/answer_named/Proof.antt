@@ -1,6 +1,6 @@
 use borrow.Author.Needs.{needs}
-use Rattle.card.proofs.Events.{entered}
-use Rattle.card.proofs.Naming.{named-bad, named-unknown, named-here}
+use Rattle.steps.proofs.Events.{entered}
+use Rattle.steps.proofs.Naming.{named-bad, named-unknown, named-here}
 use Rattle.card.proofs.answering.answer_named.Statement.{statement}
 use Rattle.card.proofs.answering.answer_named.Tie as tie
 

@@ -1,5 +1,5 @@
 use borrow.Author.Needs.{needs}
-use Rattle.card.proofs.Carried.{fine-on, on-refused, on-done}
+use Rattle.steps.proofs.Carried.{fine-on, on-refused, on-done}
 use Rattle.card.proofs.answering.answer_set.Statement.{statement}
 use Rattle.card.proofs.answering.answer_set.Tie as tie
 

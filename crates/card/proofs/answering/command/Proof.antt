@@ -1,8 +1,8 @@
 use mathlib.Core.Path.{sym, _∙_}
 use borrow.Author.Needs.{needs}
 use lib.ListN.{length}
-use Rattle.card.specs.Items.{command}
-use Rattle.card.proofs.Viewing.{is-named, reads-aggregate, is-aggregate, is-identify}
+use Rattle.steps.specs.Items.{command}
+use Rattle.steps.proofs.Viewing.{is-named, reads-aggregate, is-aggregate, is-identify}
 use Rattle.card.proofs.answering.command.Statement.{statement}
 use Rattle.card.proofs.answering.command.Tie as tie
 

@@ -1,5 +1,5 @@
 use borrow.Author.Needs.{needs}
-use Rattle.card.proofs.Carried.{handed, handed-none}
+use Rattle.steps.proofs.Carried.{handed, handed-none}
 use Rattle.card.proofs.answering.hand_by.Statement.{statement}
 use Rattle.card.proofs.answering.hand_by.Tie as tie
 

@@ -1,5 +1,5 @@
 use borrow.Author.Needs.{needs}
-use Rattle.card.specs.OnSet.{statusOn}
+use Rattle.steps.specs.OnSet.{statusOn}
 use Rattle.card.proofs.answering.status_on.Statement.{statement}
 use Rattle.card.proofs.answering.status_on.Tie as tie
 

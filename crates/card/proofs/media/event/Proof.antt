@@ -1,5 +1,5 @@
 use borrow.Author.Needs.{needs}
-use Rattle.card.proofs.Events.{entered, event-bad, event-unknown, event-here}
+use Rattle.steps.proofs.Events.{entered, event-bad, event-unknown, event-here}
 use Rattle.card.proofs.media.event.Statement.{statement}
 use Rattle.card.proofs.media.event.Tie as tie
 

@@ -3,8 +3,8 @@ use Prim.Native.Nat.{_-_, _*_, _≤_}
 use native.Mathlib.Nat.{sub-zero}
 use borrow.Author.Needs.{needs}
 use Rattle.pages.specs.Bodies.{bodySize}
-use Rattle.card.specs.SetUp.{attributesFrom}
-use Rattle.card.proofs.NewSets.{legalFrom, legal-stop, legal-again, legal-end}
+use Rattle.steps.specs.SetUp.{attributesFrom}
+use Rattle.steps.proofs.NewSets.{legalFrom, legal-stop, legal-again, legal-end}
 use Rattle.card.proofs.setting.bodies_legal.Statement.{statement}
 use Rattle.card.proofs.setting.bodies_legal.Tie as tie
 

@@ -1,5 +1,5 @@
 use borrow.Author.Needs.{needs}
-use Rattle.card.specs.SetUp.{newSets, setUpStatus}
+use Rattle.steps.specs.SetUp.{newSets, setUpStatus}
 use Rattle.card.proofs.setting.refusal.Statement.{statement}
 use Rattle.card.proofs.setting.refusal.Tie as tie
 

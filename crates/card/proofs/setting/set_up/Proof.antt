@@ -3,7 +3,7 @@ use lib.ListN.{length, length-set}
 use mathlib.Core.Path.{ap, _∙_}
 use Rattle.table.proofs.Written.{length-written}
 use borrow.Author.Needs.{needs}
-use Rattle.card.proofs.NewSets.{well, set-up-refused, set-up-done}
+use Rattle.steps.proofs.NewSets.{well, set-up-refused, set-up-done}
 use Rattle.card.proofs.setting.set_up.Statement.{statement}
 use Rattle.card.proofs.setting.set_up.Tie as tie
 

@@ -5,8 +5,8 @@ use borrow.Author.Needs.{needs}
 use lib.ListN.{length}
 use Rattle.table.specs.Table.{written}
 use Rattle.pages.specs.Bodies.{bodySize}
-use Rattle.card.specs.SetUp.{newRecord, attributesFrom}
-use Rattle.card.proofs.NewSets.{rowsLeft, rows-start, rows-end, rows-again}
+use Rattle.steps.specs.SetUp.{newRecord, attributesFrom}
+use Rattle.steps.proofs.NewSets.{rowsLeft, rows-start, rows-end, rows-again}
 use Rattle.card.proofs.setting.write_rows.Statement.{statement}
 use Rattle.card.proofs.setting.write_rows.Tie as tie
 

@@ -4,7 +4,7 @@ use native.Mathlib.Omega.{arith}
 use borrow.Author.Needs.{needs}
 use lib.ListN.{length}
 use Rattle.table.specs.Table.{count}
-use Rattle.card.proofs.Whole.{Going, going-start, going-room, going-on, going-end}
+use Rattle.steps.proofs.Whole.{Going, going-start, going-room, going-on, going-end}
 use Rattle.card.proofs.views.show_all.Statement.{statement}
 use Rattle.card.proofs.views.show_all.Tie as tie
 

@@ -1,5 +1,5 @@
 use borrow.Author.Needs.{needs}
-use Rattle.card.proofs.Plain.{plain}
+use Rattle.steps.proofs.Plain.{plain}
 use Rattle.tape.proofs.Playing.{played-plain}
 use Rattle.tape.proofs.items.play_event.Statement.{statement}
 use Rattle.tape.proofs.items.play_event.Tie as tie

@@ -1,5 +1,5 @@
 use borrow.Author.Needs.{needs}
-use Rattle.card.proofs.Plain.{plain-tick}
+use Rattle.steps.proofs.Plain.{plain-tick}
 use Rattle.tape.proofs.Playing.{played-plain}
 use Rattle.tape.proofs.items.play_tick.Statement.{statement}
 use Rattle.tape.proofs.items.play_tick.Tie as tie

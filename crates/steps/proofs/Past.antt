@@ -1,0 +1,108 @@
+-- Words past the table: no item and no set-up reads or writes them.
+use mathlib.Core.Path.{_≡_, refl, ap, _∙_}
+use mathlib.Core.Bool.{Bool, true, false, _&&_, not}
+use mathlib.Core.List.{List, _++_}
+use mathlib.Core.Logic.{⊎-elim}
+use Prim.Native.Nat.{ℕ, _≤_}
+use native.Mathlib.Omega.{arith}
+use borrow.Author.Tests.{eqb-true, le-ltb, leb-true}
+use lib.Dec.{eqb, leb}
+use lib.ListN.{length, length-map, length-append, length-set, set}
+use lib.Seq.{set-append-left}
+use Rattle.octets.specs.Choice.{if_then_else_}
+use Rattle.octets.proofs.Tests.{both}
+use Rattle.record.specs.Legal.{maxSets, inRange}
+use Rattle.replies.specs.Numbers.{badTable}
+use Rattle.replies.specs.Answers.{refused}
+use Rattle.table.specs.Table.{count, rowStart, recordsOf, sized, legalTable, written}
+use Rattle.table.proofs.Written.{length-written}
+use Rattle.table.proofs.Past.{written-past, records-past, legal-past}
+use Rattle.steps.specs.Items.{Card, Item}
+use Rattle.steps.specs.Card.{after, answer}
+use Rattle.steps.specs.Words.{Result, cardOf, stepWords}
+use Rattle.steps.specs.SetUp.{bodies, newSets, setUpStatus, newTable, setUp}
+use Rattle.steps.proofs.Shapes.{bool-cases}
+use Rattle.steps.proofs.Frame.{step-bad, step-legal, length-records}
+use Rattle.steps.proofs.NewSets.{well, new-length, done, notDone}
+
+-- a result, and words past it
+abbrev pub beside : Result → List ℕ → Result
+beside r past = record { table = r .table ++ past; answer = r .answer }
+
+unsized : (ws : List ℕ) → sized ws ≡ false → legalTable ws ≡ false
+unfolding legalTable
+unsized ws h = rw h
+
+-- where the header is wrong, or the words are too few, there is no table
+pub step-unsized : (ws : List ℕ) (i : Item) → sized ws ≡ false → stepWords ws i ≡ record { table = ws; answer = refused badTable }
+step-unsized ws i h = step-bad ws i (unsized ws h)
+
+module _ (past ws : List ℕ) where
+  module _ (room : rowStart (count ws) ≤ length ws) (i : Item) where
+    same-card : cardOf (ws ++ past) ≡ cardOf ws
+    same-card = rw (records-past past ws room)
+
+    abbrev stepped : Card → Result
+    stepped c = record { table = written (ws ++ past) (after c i .sets); answer = answer c i }
+
+    legal-beside : legalTable ws ≡ true → stepWords (ws ++ past) i ≡ beside (stepWords ws i) past
+    legal-beside e =
+        let as-many : length (after (cardOf ws) i .sets) ≡ count ws = simp length-map (length-records ws) in
+        step-legal (ws ++ past) i (legal-past past ws room ∙ e)
+        ∙ ap stepped same-card
+        ∙ rw (step-legal ws i e, written-past past ws (after (cardOf ws) i .sets) (rw as-many room))
+
+    pub step-past : stepWords (ws ++ past) i ≡ beside (stepWords ws i) past
+    step-past =
+        ⊎-elim
+        legal-beside
+        (λ e. step-bad (ws ++ past) i (legal-past past ws room ∙ e) ∙ rw (step-bad ws i e))
+        (bool-cases (legalTable ws))
+
+  -- set-up, where the words have room for its sets, if they are not too many
+  module _ (bytes : List ℕ) (room : bodies bytes ≤ maxSets → rowStart (bodies bytes) ≤ length ws) where
+    lines-same : (b : Bool) → inRange maxSets (bodies bytes) ≡ b → setUpStatus bytes (length (ws ++ past)) ≡ setUpStatus bytes (length ws)
+    unfolding setUpStatus
+    lines-same true e =
+        let few : bodies bytes ≤ maxSets = leb-true (bodies bytes) maxSets (both (leb 1 (bodies bytes)) _ e .1) in
+        let here : rowStart (bodies bytes) ≤ length ws = room few in
+        let there : rowStart (bodies bytes) ≤ length (ws ++ past) = omega (arith, length-append ws past) in
+        rw (le-ltb (length ws) (rowStart (bodies bytes)) here, le-ltb (length (ws ++ past)) (rowStart (bodies bytes)) there)
+    lines-same false e = rw e
+
+    status-same : setUpStatus bytes (length (ws ++ past)) ≡ setUpStatus bytes (length ws)
+    status-same = lines-same (inRange maxSets (bodies bytes)) refl
+
+    table-past : setUpStatus bytes (length ws) ≡ 0 → newTable bytes (ws ++ past) ≡ newTable bytes ws ++ past
+    table-past z =
+        let w = well bytes (length ws) _ refl z in
+        let many : rowStart (length (newSets bytes)) ≤ length (set ws 0 (bodies bytes)) =
+        rw (new-length bytes, length-set ws 0 (bodies bytes)) (w .room) in
+        rw (set-append-left ws past 0 (bodies bytes) (omega (arith, w .room))) (written-past past (set ws 0 (bodies bytes)) (newSets bytes) many)
+
+    by-status :
+        (s : ℕ) (b : Bool) → setUpStatus bytes (length ws) ≡ s → eqb s 0 ≡ b
+        → (if b then done bytes (ws ++ past) else notDone (ws ++ past) s) ≡ beside (if b then done bytes ws else notDone ws s) past
+    by-status s true e q = rw (table-past (e ∙ eqb-true s 0 q))
+    by-status s false e q = refl
+
+    pub set-up-past : setUp bytes (ws ++ past) ≡ beside (setUp bytes ws) past
+    unfolding setUp
+    set-up-past = rw status-same (by-status (setUpStatus bytes (length ws)) (eqb (setUpStatus bytes (length ws)) 0) refl refl)
+
+-- ---- no call makes the table longer or shorter
+
+pub length-step : (ws : List ℕ) (i : Item) → length (stepWords ws i .table) ≡ length ws
+length-step ws i =
+    ⊎-elim
+    (λ e. rw (step-legal ws i e) (length-written ws (after (cardOf ws) i .sets)))
+    (λ e. rw (step-bad ws i e))
+    (bool-cases (legalTable ws))
+
+pub length-set-up : (bytes ws : List ℕ) → length (setUp bytes ws .table) ≡ length ws
+unfolding setUp
+length-set-up bytes ws = by (eqb (setUpStatus bytes (length ws)) 0)
+  where
+    by : (b : Bool) → length ((if b then done bytes ws else notDone ws (setUpStatus bytes (length ws))) .table) ≡ length ws
+    by true = length-written (set ws 0 (bodies bytes)) (newSets bytes) ∙ length-set ws 0 (bodies bytes)
+    by false = refl

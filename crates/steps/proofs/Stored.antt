@@ -1,0 +1,323 @@
+-- Demand 2: "What Set Features stores, Get Features hands back."
+use mathlib.Core.Path.{_≡_, refl, sym, ap, _∙_}
+use mathlib.Core.Bool.{Bool, true, false, not, _&&_, _||_, or-false}
+use mathlib.Core.List.{List, [], _∷_, _++_}
+use mathlib.Core.Option.{Option, none, some}
+use mathlib.Core.Logic.{⊎-elim}
+use Prim.Native.Nat.{ℕ, _+_}
+use native.Mathlib.Omega.{arith}
+use borrow.Author.Tests.{eqb-true, eq-eqb}
+use lib.Dec.{eqb}
+use lib.ListN.{length}
+use Rattle.octets.specs.Choice.{if_then_else_}
+use Rattle.octets.proofs.Tests.{both}
+use Rattle.record.specs.declared.Attributes.{Attributes}
+use Rattle.record.specs.declared.Window.{Window}
+use Rattle.record.specs.declared.Window.the-variants.{Off, D, N}
+use Rattle.record.specs.declared.Quantity.{Quantity}
+use Rattle.record.specs.declared.Quantity.the-variants.{Reads, Writes, Time}
+use Rattle.record.specs.declared.State.{State}
+use Rattle.record.specs.declared.Record.{Record}
+use Rattle.record.specs.declared.Effect.{Effect}
+use Rattle.record.specs.Record.{limit, spent, afresh, spending}
+use Rattle.record.specs.Events.{bit}
+use Rattle.record.specs.Window.{byWindow, windowNo, sameWindow}
+use Rattle.replies.specs.Status.{line}
+use Rattle.replies.proofs.Rows.{passed}
+use Rattle.rules.specs.declared.Cause.the-variants.{Excursion, Exceeded, TimeUp}
+use Rattle.rules.specs.Changes.{movedBy}
+use Rattle.rules.specs.Rules as rules
+use Rattle.table.specs.Table.{idOf}
+use Rattle.pages.specs.Features.{configIn}
+use Rattle.steps.specs.Lists.{first}
+use Rattle.commands.specs.declared.Command.{Command}
+use Rattle.commands.specs.declared.Kind.{Kind}
+use Rattle.commands.specs.declared.Kind.the-variants.{SetConfig, SetWindow, GetConfig, GetWindow, ReadLatency, ReadAggregate, Identify}
+use Rattle.steps.specs.Items.{Card, Item, reads, writes, excursion, tick, command, One, Meaning, Nobody, Everybody, The}
+use Rattle.commands.specs.Commands.{featureSet, enable, windowValue, causeBy, windowCause, retain, kindOf, commandIn}
+use Rattle.commands.specs.StatusTable.{earlyLines, unknownNumber, isOff, lateLines}
+use Rattle.steps.specs.Commanded.{modeNo, named, meaningBy, commandMeaning}
+use Rattle.steps.specs.Meanings.{meaning}
+use Rattle.steps.specs.Card.{statusAt, statusOne, statusOf, has, effectBy, effectOn, names, namesBy, concernsBy, concerns, touched, after, answer, run}
+use Rattle.steps.specs.Demands.{noneOf, stores13, configures, ConfigStored, reaches, toAllBy, toAll, WindowStored}
+use Rattle.steps.proofs.Lists.{first-map, first-passes, first-fixed}
+use Rattle.steps.proofs.Shapes.{bool-cases, touched-own, touched-not, keeps}
+use Rattle.steps.proofs.History.{has-same}
+
+-- ---- 13h: the mode and the configuration, which no other item changes
+
+-- "enable" as a window tells it
+abbrev modeIn : Window → ℕ
+modeIn w = byWindow w 0 1 1
+
+record Kept (s t : State) : Type 0 where
+  mode : modeNo t ≡ modeNo s
+  config : t .config ≡ s .config
+
+same : (s : State) → Kept s s
+same s = record { mode = refl; config = refl }
+
+then-kept : (s t u : State) → Kept s t → Kept t u → Kept s u
+then-kept s t u p q = record { mode = q .mode ∙ p .mode; config = q .config ∙ p .config }
+
+by-test : (b : Bool) (s : State) (e f : Effect) → Kept s (e .state) → Kept s (f .state) → Kept s ((if b then e else f) .state)
+by-test true s e f p q = p
+by-test false s e f p q = q
+
+by-window : (w : Window) (s : State) (e f g : Effect) → Kept s (e .state) → Kept s (f .state) → Kept s (g .state) → Kept s (byWindow w e f g .state)
+by-window Off s e f g p q r = p
+by-window D s e f g p q r = q
+by-window N s e f g p q r = r
+
+-- the table of window changes: only enable and disable turn the mode on or off
+excursion-mode : (w : Window) → modeIn (movedBy w Excursion) ≡ modeIn w
+excursion-mode Off = refl
+excursion-mode D = refl
+excursion-mode N = refl
+
+exceeded-mode : (w : Window) → modeIn (movedBy w Exceeded) ≡ modeIn w
+exceeded-mode Off = refl
+exceeded-mode D = refl
+exceeded-mode N = refl
+
+time-up-mode : (w : Window) → modeIn (movedBy w TimeUp) ≡ modeIn w
+time-up-mode Off = refl
+time-up-mode D = refl
+time-up-mode N = refl
+
+select-mode : (d : Bool) (w : Window) → modeIn (movedBy w (causeBy d)) ≡ modeIn w
+select-mode true Off = refl
+select-mode true D = refl
+select-mode true N = refl
+select-mode false Off = refl
+select-mode false D = refl
+select-mode false N = refl
+
+set-mode : (on : Bool) (w : Window) → modeIn (movedBy w (rules.causeOfMode on)) ≡ bit on
+set-mode true Off = refl
+set-mode true D = refl
+set-mode true N = refl
+set-mode false Off = refl
+set-mode false D = refl
+set-mode false N = refl
+
+leaves : (q : Quantity) (s : State) (n : ℕ) → Kept s (afresh s (movedBy (s .window) (rules.causeOver q)) n)
+leaves Reads s n = record { mode = exceeded-mode (s .window); config = refl }
+leaves Writes s n = record { mode = exceeded-mode (s .window); config = refl }
+leaves Time s n = record { mode = time-up-mode (s .window); config = refl }
+
+spends : (q : Quantity) (s : State) (n : ℕ) → Kept s (spending q n s)
+spends Reads s n = record { mode = refl; config = refl }
+spends Writes s n = record { mode = refl; config = refl }
+spends Time s n = record { mode = refl; config = refl }
+
+charge-kept : (q : Quantity) (k : ℕ) (a : Attributes) (s : State) → Kept s (rules.charge q k a s .state)
+charge-kept q k a s =
+    by-test (rules.isOver q (limit q a) (spent q s + k)) s _ _ (leaves q s (rules.carried q a (spent q s + k))) (spends q s (spent q s + k))
+
+select-kept : (d : Bool) (a : Attributes) (s : State) → Kept s (rules.selecting (causeBy d) a s .state)
+select-kept d a s =
+    let w = movedBy (s .window) (causeBy d) in
+    by-test (sameWindow w (s .window)) s (rules.still s) (rules.entered w a s) (same s) (record { mode = select-mode d (s .window); config = refl })
+
+-- each item: what it does to set id, where it is no Set Features 13h of that set
+abbrev Mild : ℕ → Meaning → Type 0
+Mild id (Nobody v) = Unit {0}
+Mild id (Everybody e) = (a : Attributes) (s : State) → Kept s (e .rule a s .state)
+Mild id (The named o) = eqb named id ≡ true → (a : Attributes) (s : State) → Kept s (o .rule a s .state)
+
+by-kind : (id : ℕ) (k : Kind) (c : Command) (given : List ℕ) (room : ℕ) → stores13 k && eqb (featureSet c) id ≡ false → Mild id (meaningBy k c given room)
+by-kind id SetConfig c given room h = λ e. absurd (let z : _≡_ {A = ℕ} 0 1 = cc in omega arith)
+by-kind id SetWindow c given room h = λ e a s. select-kept (eqb (windowValue c) 1) a s
+by-kind id GetConfig c given room h = λ e a s. same s
+by-kind id GetWindow c given room h = λ e a s. same s
+by-kind id ReadLatency c given room h = λ e a s. by-test (retain c) s _ _ (same s) (same s)
+by-kind id ReadAggregate c given room h = tt
+by-kind id Identify c given room h = tt
+
+command-mild : (id : ℕ) (bytes given : List ℕ) (room : ℕ) → configures id (command bytes given room) ≡ false → Mild id (commandMeaning bytes given room)
+unfolding commandMeaning
+command-mild id bytes given room h = by-kind id (kindOf (commandIn bytes)) (commandIn bytes) given room h
+
+mild : (id : ℕ) (i : Item) → configures id i ≡ false → Mild id (meaning i)
+unfolding meaning
+mild id (reads named k) h = λ e a s. by-window (s .window) s _ _ _ (same s) (charge-kept Reads k a s) (same s)
+mild id (writes named k) h = λ e a s. by-window (s .window) s _ _ _ (same s) (charge-kept Writes k a s) (same s)
+mild id (excursion named) h = λ e a s. by-window (s .window) s _ _ _ (same s) (record { mode = excursion-mode (s .window); config = refl }) (same s)
+mild id (tick t) h = λ a s. by-window (s .window) s _ _ _ (same s) (charge-kept Time t a s) (record { mode = refl; config = refl })
+mild id (command bytes given room) h = command-mild id bytes given room h
+
+effect-mild : (id n : ℕ) (m : Meaning) → Mild id m → concernsBy m n id ≡ true → (a : Attributes) (s : State) → Kept s (effectBy m a s .state)
+effect-mild id n (Nobody v) k e a s = same s
+effect-mild id n (Everybody v) k e a s = k a s
+effect-mild id n (The named o) k e a s = by-test (eqb (statusAt o a s) 0) s _ _ (k e a s) (same s)
+
+touched-mild : (n : ℕ) (i : Item) (r : Record) → configures (idOf r) i ≡ false → Kept (r .state) (touched n i r .state)
+unfolding effectOn concerns
+touched-mild n i r h =
+    ⊎-elim
+    (λ e. rw (touched-own n i r e) (effect-mild (idOf r) n (meaning i) (mild (idOf r) i h) e (r .attributes) (r .state)))
+    (λ e. rw (touched-not n i r e) (same (r .state)))
+    (bool-cases (concerns n (idOf r) i))
+
+not-true : (b : Bool) → not b ≡ true → b ≡ false
+not-true true e = cc
+not-true false e = refl
+
+-- the set later on
+record Later (c : Card) (id : ℕ) (s : State) : Type 0 where
+  held : Record
+  there : first (has id) (c .sets) ≡ some held
+  kept : Kept s (held .state)
+
+later : (is : List Item) (c : Card) (id : ℕ) (r : Record) → first (has id) (c .sets) ≡ some r → idOf r ≡ id
+    → noneOf (configures id) is ≡ true → Later (run c is) id (r .state)
+later [] c id r f e h = record { held = r; there = f; kept = same (r .state) }
+later (i ∷ is) c id r f e h =
+    let n = length (c .sets) in
+    let b = both (not (configures id i)) _ h in
+    let f′ : first (has id) (after c i .sets) ≡ some (touched n i r) = first-map (touched n i) (has id) (has-same n id i) (c .sets) ∙ rw f in
+    let k = touched-mild n i r (rw e (not-true (configures id i) (b .0))) in
+    let l = later is (after c i) id (touched n i r) f′ (keeps n i r ∙ e) (b .1) in
+    record { held = l .held; there = l .there; kept = then-kept (r .state) (touched n i r .state) (l .held .state) k (l .kept) }
+
+-- ---- a command that names a set and succeeds
+
+module _ (bytes given : List ℕ) (room : ℕ) (k : Kind) (e : kindOf (commandIn bytes) ≡ k) where
+  command-is : meaning (command bytes given room) ≡ meaningBy k (commandIn bytes) given room
+  unfolding meaning commandMeaning
+  command-is = rw e
+
+-- its set is in the table
+record Held (x : Option Record) (o : One) : Type 0 where
+  held : Record
+  there : x ≡ some held
+  passes : statusAt o (held .attributes) (held .state) ≡ 0
+
+held-by : (k : Kind) (c : Command) (given : List ℕ) (room : ℕ) (x : Option Record) → statusOne (named k c given room) x ≡ 0 → Held x (named k c given room)
+held-by k c given room none h =
+    let p = passed (earlyLines c ++ line true unknownNumber ∷ []) refl h in
+    let t : true ≡ false = p .1 .1 .1 .1 .1 .1 .0 in
+    absurd (let z : _≡_ {A = ℕ} 0 1 = cc in omega arith)
+held-by k c given room (some r) h = record { held = r; there = refl; passes = h }
+
+module _ (i : Item) (id : ℕ) (o : One) (m : meaning i ≡ The id o) (c : Card) where
+  status-is : statusOf c i ≡ statusOne o (first (has id) (c .sets))
+  unfolding statusOf
+  status-is = rw m
+
+  module _ (r : Record) (f : first (has id) (c .sets) ≡ some r) where
+    has-id : idOf r ≡ id
+    has-id = eqb-true (idOf r) id (first-passes (has id) (c .sets) r f)
+
+    -- what it answers
+    done-is : statusOf c i ≡ 0 → answer c i ≡ o .done r
+    unfolding answer
+    done-is h = rw (m, f, rw f at (sym status-is ∙ h))
+
+    -- and what it leaves
+    concerns-it : (n : ℕ) → concerns n (idOf r) i ≡ true
+    unfolding concerns
+    concerns-it n = rw m (eq-eqb id (idOf r) (sym has-id))
+
+    effect-is : statusAt o (r .attributes) (r .state) ≡ 0 → effectOn i (r .attributes) (r .state) ≡ o .rule (r .attributes) (r .state)
+    unfolding effectOn
+    effect-is h = rw (m, h)
+
+    left-is : statusAt o (r .attributes) (r .state) ≡ 0 → touched (length (c .sets)) i r .state ≡ o .rule (r .attributes) (r .state) .state
+    left-is h = ap (λ (x : Record). x .state) (touched-own (length (c .sets)) i r (concerns-it (length (c .sets)))) ∙ ap (λ (x : Effect). x .state) (effect-is h)
+
+    left-there : first (has id) (after c i .sets) ≡ some (touched (length (c .sets)) i r)
+    left-there = first-map (touched (length (c .sets)) i) (has id) (has-same (length (c .sets)) id i) (c .sets) ∙ rw f
+
+pub config-stored : ConfigStored
+config-stored c bytes given room is bytes′ given′ room′ k z h k′ q z′ =
+    let C = commandIn bytes in
+    let id = featureSet C in
+    let i = command bytes given room in
+    let o = named SetConfig C given room in
+    let m = command-is bytes given room SetConfig k in
+    let x = held-by SetConfig C given room (first (has id) (c .sets)) (sym (status-is i id o m c) ∙ z) in
+    let r = x .held in
+    let t = touched (length (c .sets)) i r in
+    let s = left-is i id o m c r (x .there) (x .passes) in
+    let l = later is (after c i) id t (left-there i id o m c r (x .there)) (keeps (length (c .sets)) i r ∙ has-id i id o m c r (x .there)) h in
+    let d = done-is (command bytes′ given′ room′) (featureSet (commandIn bytes′)) (named GetConfig (commandIn bytes′) given′ room′)
+    (command-is bytes′ given′ room′ GetConfig k′) (run c (i ∷ is)) (l .held) (rw q (l .there)) z′ in
+    let mode : modeNo (l .held .state) ≡ bit (enable C) = l .kept .mode ∙ ap modeNo s ∙ set-mode (enable C) (r .state .window) in
+    let config : l .held .state .config ≡ configIn given = l .kept .config ∙ ap (λ (y : State). y .config) s in
+    d ∙ rw (mode, config)
+
+-- ---- 14h: the window, which no item changes that does not reach the set
+
+not-reached-by : (m : Meaning) (n id : ℕ) → namesBy m id || toAllBy m ≡ false → concernsBy m n id ≡ false
+not-reached-by (Nobody v) n id e = refl
+not-reached-by (Everybody a) n id e = cc
+not-reached-by (The named o) n id e = sym (or-false (eqb named id)) ∙ e
+
+not-reached : (i : Item) (n id : ℕ) → reaches id i ≡ false → concerns n id i ≡ false
+unfolding names toAll concerns
+not-reached i n id e = not-reached-by (meaning i) n id e
+
+untouched : (is : List Item) (c : Card) (id : ℕ) → noneOf (reaches id) is ≡ true → first (has id) (run c is .sets) ≡ first (has id) (c .sets)
+untouched [] c id h = refl
+untouched (i ∷ is) c id h =
+    let n = length (c .sets) in
+    let b = both (not (reaches id i)) _ h in
+    let z = not-reached i n id (not-true (reaches id i) (b .0)) in
+    untouched is (after c i) id (b .1)
+    ∙ first-fixed (touched n i) (has id) (has-same n id i) (λ r e. touched-not n i r (rw (eqb-true (idOf r) id e) z)) (c .sets)
+
+-- "14h while off; window not 1 or 2 (Set)": a select that passes asks for a window of a set that is on
+or-none : (a b : Bool) → a || b ≡ false → (a ≡ false) × (b ≡ false)
+or-none true b h = (h, cc)
+or-none false b h = (refl, h)
+
+one-or-two : (v : ℕ) (a b : Bool) → eqb v 1 ≡ a → eqb v 2 ≡ b → not (a || b) ≡ false → (if a then 1 else 2) ≡ v
+one-or-two v true b e f h = sym (eqb-true v 1 e)
+one-or-two v false true e f h = sym (eqb-true v 2 f)
+one-or-two v false false e f h = cc
+
+-- and leaves that window
+moved-window : (d : Bool) (w : Window) → byWindow w true false false ≡ false → windowNo (movedBy w (causeBy d)) ≡ if d then 1 else 2
+moved-window d Off h = cc
+moved-window true D h = refl
+moved-window false D h = refl
+moved-window true N h = refl
+moved-window false N h = refl
+
+lands : (b : Bool) (e f : Effect) (n : ℕ) → (b ≡ true → windowNo (e .state .window) ≡ n) → windowNo (f .state .window) ≡ n → windowNo ((if b then e else f) .state .window) ≡ n
+lands true e f n p q = p refl
+lands false e f n p q = q
+
+selected-window : (d : Bool) (a : Attributes) (s : State) → isOff s ≡ false → windowNo (rules.selecting (causeBy d) a s .state .window) ≡ if d then 1 else 2
+selected-window d a s h =
+    let w = movedBy (s .window) (causeBy d) in
+    let m = moved-window d (s .window) h in
+    lands (sameWindow w (s .window)) (rules.still s) (rules.entered w a s) (if d then 1 else 2) (λ t. sym (eqb-true (windowNo w) (windowNo (s .window)) t) ∙ m) m
+
+asked-window :
+    (c : Command) (given : List ℕ) (room : ℕ) (a : Attributes) (s : State) → statusAt (named SetWindow c given room) a s ≡ 0
+    → windowNo (rules.selecting (windowCause c) a s .state .window) ≡ windowValue c
+asked-window c given room a s h =
+    let p = passed (earlyLines c ++ lateLines SetWindow c (length given) room a s) refl h in
+    let o = or-none (isOff s) _ (p .1 .1 .1 .1 .1 .1 .0) in
+    selected-window (eqb (windowValue c) 1) a s (o .0)
+    ∙ one-or-two (windowValue c) (eqb (windowValue c) 1) (eqb (windowValue c) 2) refl refl (o .1)
+
+pub window-stored : WindowStored
+window-stored c bytes given room is bytes′ given′ room′ k z h k′ q z′ =
+    let C = commandIn bytes in
+    let id = featureSet C in
+    let i = command bytes given room in
+    let o = named SetWindow C given room in
+    let m = command-is bytes given room SetWindow k in
+    let x = held-by SetWindow C given room (first (has id) (c .sets)) (sym (status-is i id o m c) ∙ z) in
+    let r = x .held in
+    let t = touched (length (c .sets)) i r in
+    let s = left-is i id o m c r (x .there) (x .passes) in
+    let f : first (has id) (run c (i ∷ is) .sets) ≡ some t = untouched is (after c i) id h ∙ left-there i id o m c r (x .there) in
+    let d = done-is (command bytes′ given′ room′) (featureSet (commandIn bytes′)) (named GetWindow (commandIn bytes′) given′ room′)
+    (command-is bytes′ given′ room′ GetWindow k′) (run c (i ∷ is)) t (rw q f) z′ in
+    let window : windowNo (t .state .window) ≡ windowValue C = ap (λ (y : State). windowNo (y .window)) s ∙ asked-window C given room (r .attributes) (r .state) (x .passes) in
+    d ∙ rw window

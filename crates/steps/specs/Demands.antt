@@ -1,0 +1,333 @@
+-- What is promised of the step: demand 1 as laws for all items; demand 3 over any list of items; and of demand 2, that features
+-- hand back what they store.
+-- Each is proved under its name, in lower case and with dashes, in proofs/Exact.antt, proofs/Stored.antt, proofs/Named.antt,
+-- proofs/History.antt, proofs/Aggregate.antt and proofs/OnWords.antt.
+-- But for page 0Bh, the features and which items name a set nothing here looks at a single item: an item names one set (`The`), goes to every set (`Everybody`) or to none (`Nobody`).
+use mathlib.Core.Path.{_≡_}
+use mathlib.Core.Bool.{Bool, true, false, not, _&&_, _||_}
+use mathlib.Core.List.{List, [], _∷_, _++_, map}
+use mathlib.Core.Option.{some}
+use Prim.Native.Nat.{ℕ, _*_, _<_}
+use lib.Dec.{eqb}
+use lib.ListN.{length}
+use Rattle.octets.specs.Choice.{if_then_else_}
+use Rattle.octets.specs.Octets.{padded}
+use Rattle.record.specs.declared.Attributes.{Attributes}
+use Rattle.record.specs.declared.State.{State}
+use Rattle.record.specs.declared.Record.{Record}
+use Rattle.record.specs.Events.{bit, anyEnabled}
+use Rattle.replies.specs.Numbers.{badTable}
+use Rattle.replies.specs.declared.Reply.{Reply}
+use Rattle.replies.specs.Answers.{Answer, granted, refused, refusing}
+use Rattle.table.specs.Table.{idOf, legalSets, legalTable, written, listedMarks, recordsOf}
+use Rattle.pages.specs.Features.{configIn, configPage}
+use Rattle.pages.specs.Aggregate.{picked, aggregatePage}
+use Rattle.steps.specs.Lists.{nth, keep, beside, join}
+use Rattle.steps.specs.Items.{Card, Item, reads, writes, excursion, tick, command, All, View, Meaning, Nobody, Everybody, The}
+use Rattle.commands.specs.declared.Kind.{Kind}
+use Rattle.commands.specs.declared.Kind.the-variants.{SetConfig, SetWindow, GetConfig, GetWindow, ReadLatency, ReadAggregate, Identify}
+use Rattle.commands.specs.Commands.{dwordSize, commandIn, kindOf, featureSet, enable, windowValue, offset, dwords}
+use Rattle.steps.specs.Commanded.{isNamed, namedBy}
+use Rattle.steps.specs.Meanings.{meaning}
+use Rattle.steps.specs.Card.{effectOn, ruled, statusOf, names, answer, step, run, trace}
+use Rattle.steps.specs.Words.{cardOf, stepWords, Answered}
+use Rattle.steps.specs.SetUp.{newSets, setUpStatus, setUp}
+
+-- ==== demand 1: "with success or with the one refusal that document 01 names for that input"
+
+-- "A refused call gives dword 0 as zero and no data, and changes no byte of the table": on the card, no set
+abbrev pub Refused : Type 0
+Refused =
+    (c : Card) (i : Item) → legalSets 0 (c .sets) ≡ true → (statusOf c i ≡ 0 → ⊥)
+    → (answer c i ≡ refused (statusOf c i)) × (step c i .card .sets ≡ c .sets)
+
+-- and on the lent words, "however damaged": the status of an item that is handed in with them
+abbrev pub statusWords : List ℕ → Item → ℕ
+statusWords ws i = if legalTable ws then statusOf (cardOf ws) i else badTable
+
+abbrev pub RefusedWords : Type 0
+RefusedWords =
+    (ws : List ℕ) (i : Item) → (statusWords ws i ≡ 0 → ⊥) → stepWords ws i ≡ record { table = ws; answer = refused (statusWords ws i) }
+
+-- "the one refusal that document 01 names for that input", exactly then: the number that is answered is that of the first row
+-- that holds, and 0, success, where none does
+abbrev pub Exactly : Type 0
+Exactly = (c : Card) (i : Item) → answer c i .status ≡ statusOf c i
+
+abbrev pub ExactlyWords : Type 0
+ExactlyWords = (ws : List ℕ) (i : Item) → stepWords ws i .answer .status ≡ statusWords ws i
+
+-- "or of the answer buffer": what a command that is refused leaves of it
+abbrev pub RefusedBuffer : Type 0
+RefusedBuffer =
+    (ws : List ℕ) (i : Item) (before : List ℕ) (r : Reply) (words buffer : List ℕ) → (statusWords ws i ≡ 0 → ⊥)
+    → Answered ws i before r words buffer → (r ≡ refusing (statusWords ws i)) × (words ≡ ws) × (buffer ≡ before)
+
+-- the same of set-up, which is no item; and what it leaves where it succeeds
+abbrev pub SetUpExactly : Type 0
+SetUpExactly = (bytes ws : List ℕ) → setUp bytes ws .answer .status ≡ setUpStatus bytes (length ws)
+
+abbrev pub SetUpRefused : Type 0
+SetUpRefused =
+    (bytes ws : List ℕ) → (setUpStatus bytes (length ws) ≡ 0 → ⊥)
+    → setUp bytes ws ≡ record { table = ws; answer = refused (setUpStatus bytes (length ws)) }
+
+abbrev pub SetUpLegal : Type 0
+SetUpLegal =
+    (bytes ws : List ℕ) → setUp bytes ws .answer .status ≡ 0
+    → (legalTable (setUp bytes ws .table) ≡ true) × (recordsOf (setUp bytes ws .table) ≡ newSets bytes)
+
+-- ==== demand 3: "Start from any legal table and take any sequence of items, refused ones included, with no new set-up in it."
+-- Where a legal table is needed, `legalSets` says so. A set is the record in a slot, which keeps its place.
+
+-- ---- "For each set, its record and the answers to items naming it are those reached under demand 2's rules by that set alone,
+-- from its starting record and the items naming it and the ticks, in their order."
+
+-- "that set alone": the card that holds just this set
+abbrev pub alone : Record → Card
+alone r = record { sets = r ∷ [] }
+
+-- "the items naming it and the ticks, in their order". A tick goes to every set, unless it is refused; its status goes by the
+-- number of sets and not by what they hold, so that the starting card tells it.
+abbrev pub toAllBy : Meaning → Bool
+toAllBy (Nobody v) = false
+toAllBy (Everybody a) = true
+toAllBy (The named o) = false
+
+unfoldable pub toAll : Item → Bool
+toAll i = toAllBy (meaning i)
+
+-- which items these are: "The items that name a set are events other than ticks, feature commands and reads of 0Ah; Identify and
+-- 0Bh name none."
+abbrev pub namesIn : ℕ → Item → Bool
+namesIn id (reads named k) = eqb named id
+namesIn id (writes named k) = eqb named id
+namesIn id (excursion named) = eqb named id
+namesIn id (tick t) = false
+namesIn id (command bytes given room) =
+    isNamed (kindOf (commandIn bytes)) && eqb (namedBy (kindOf (commandIn bytes)) (commandIn bytes)) id
+
+abbrev pub isTick : Item → Bool
+isTick (reads named k) = false
+isTick (writes named k) = false
+isTick (excursion named) = false
+isTick (tick t) = true
+isTick (command bytes given room) = false
+
+abbrev pub NamedItems : Type 0
+NamedItems = (id : ℕ) (i : Item) → (names id i ≡ namesIn id i) × (toAll i ≡ isTick i)
+
+abbrev pub owns : Card → ℕ → Item → Bool
+owns c id i = names id i || toAll i && eqb (statusOf c i) 0
+
+abbrev pub own : Card → Record → List Item → List Item
+own c r items = keep (owns c (idOf r)) items
+
+-- its record
+abbrev pub OwnRecord : Type 0
+OwnRecord =
+    (c : Card) (items : List Item) (k : ℕ) (r : Record) → nth k (c .sets) ≡ some r
+    → nth k (run c items .sets) ≡ nth 0 (run (alone r) (own c r items) .sets)
+
+-- "under demand 2's rules": the rules of those items, one after the other
+abbrev pub lived : Record → List Item → Record
+lived r [] = r
+lived r (i ∷ is) = lived (ruled i r) is
+
+abbrev pub ByRules : Type 0
+ByRules =
+    (c : Card) (items : List Item) (k : ℕ) (r : Record) → nth k (c .sets) ≡ some r
+    → nth k (run c items .sets) ≡ some (lived r (own c r items))
+
+-- "the answers to items naming it"
+abbrev pub OwnAnswers : Type 0
+OwnAnswers =
+    (c : Card) (items : List Item) (k : ℕ) (r : Record) → legalSets 0 (c .sets) ≡ true → nth k (c .sets) ≡ some r
+    → beside (names (idOf r)) items (trace c items) ≡ beside (names (idOf r)) (own c r items) (trace (alone r) (own c r items))
+
+-- The data of an item that goes to every set, if it is carried out: what each set alone would hand out, joined.
+-- (Today no such item hands out data.)
+abbrev pub Joined : Type 0
+Joined =
+    (c : Card) (items : List Item) (i : Item) (a : All) → meaning i ≡ Everybody a → answer (run c items) i .status ≡ 0
+    → answer (run c items) i .bytes ≡ join (map (λ r. answer (run (alone r) (own c r items)) i .bytes) (c .sets))
+
+-- ---- "The aggregate log then lists, rising, exactly the sets whose own history holds an event that was enabled when it
+-- happened, or a listing at the start, with no successful clearing read since."
+-- The history is told by a set's attributes and state. The listed mark is asked for at the start only.
+
+-- "an event that was enabled when it happened": by the enable bits that the item met
+abbrev pub raises : Item → Attributes → State → Bool
+raises i a s = anyEnabled (effectOn i a s .happened) (s .config .enabled)
+
+-- "no successful clearing read"
+abbrev pub noneCleared : Attributes → State → List Item → Bool
+noneCleared a s [] = true
+noneCleared a s (i ∷ is) = not (effectOn i a s .clears) && noneCleared a (effectOn i a s .state) is
+
+-- an enabled event, and no successful clearing read since
+abbrev pub raised : Attributes → State → List Item → Bool
+raised a s [] = false
+raised a s (i ∷ is) =
+    let later = effectOn i a s .state in
+    (raises i a s && noneCleared a later is) || raised a later is
+
+-- that, "or a listing at the start, with no successful clearing read since"
+abbrev pub pending : Record → List Item → Bool
+pending r items = (r .notes .listed && noneCleared (r .attributes) (r .state) items) || raised (r .attributes) (r .state) items
+
+-- the sets of which this holds
+abbrev pub pendingIds : Card → List Item → List ℕ
+pendingIds c items = map idOf (keep (λ r. pending r (own c r items)) (c .sets))
+
+-- "exactly the sets"
+abbrev pub Listed : Type 0
+Listed = (c : Card) (items : List Item) → map idOf (keep (λ r. r .notes .listed) (run c items .sets)) ≡ pendingIds c items
+
+-- the same of the identifiers that page 0Bh is made of
+abbrev pub PickedIds : Type 0
+PickedIds = (c : Card) (items : List Item) → picked (map idOf (run c items .sets)) (listedMarks (run c items .sets)) ≡ pendingIds c items
+
+-- "The aggregate log then lists": any item that answers with a page of those identifiers lists these sets
+abbrev pub Aggregate : Type 0
+Aggregate =
+    (c : Card) (items : List Item) (i : Item) (v : View) (page : List ℕ → Answer) → meaning i ≡ Nobody v
+    → ((d : Card) → v .done d ≡ page (picked (map idOf (d .sets)) (listedMarks (d .sets)))) → statusOf (run c items) i ≡ 0
+    → answer (run c items) i ≡ page (pendingIds c items)
+
+-- page 0Bh: every read of it that is carried out
+abbrev pub AggregateLog : Type 0
+AggregateLog =
+    (c : Card) (items : List Item) (bytes given : List ℕ) (room : ℕ) → kindOf (commandIn bytes) ≡ ReadAggregate
+    → statusOf (run c items) (command bytes given room) ≡ 0
+    → answer (run c items) (command bytes given room)
+    ≡ granted 0 (padded (aggregatePage (pendingIds c items)) (offset (commandIn bytes)) (dwords (commandIn bytes) * dwordSize))
+
+-- "rising"
+abbrev pub Rising : ℕ → List ℕ → Type 0
+Rising before [] = Unit {0}
+Rising before (id ∷ ids) = (before < id) × Rising id ids
+
+abbrev pub InOrder : Type 0
+InOrder = (c : Card) (items : List Item) → legalSets 0 (c .sets) ≡ true → Rising 0 (pendingIds c items)
+
+-- ---- "So two neighbouring items that name different sets may change places, and no record and no answer changes with them."
+
+pub record Swapped (c : Card) (i j : Item) : Type 0 where
+  pub same-sets : run c (i ∷ j ∷ []) .sets ≡ run c (j ∷ i ∷ []) .sets
+  pub same-first : answer c i ≡ answer (step c j .card) i
+  pub same-second : answer (step c i .card) j ≡ answer c j
+
+abbrev pub Swap : Type 0
+Swap = (c : Card) (i j : Item) (a b : ℕ) → names a i ≡ true → names b j ≡ true → (a ≡ b → ⊥) → Swapped c i j
+
+-- Inside any history: the same sets afterwards, the same answers before, the two items' own answers with them, and the same
+-- answers later, of the items that name no set too.
+pub record SwappedWithin (c : Card) (before : List Item) (i j : Item) (later : List Item) : Type 0 where
+  pub same-sets : run c (before ++ i ∷ j ∷ later) .sets ≡ run c (before ++ j ∷ i ∷ later) .sets
+  pub one-way :
+      trace c (before ++ i ∷ j ∷ later)
+      ≡ trace c before ++ answer (run c before) i ∷ answer (run c before) j ∷ trace (run c (before ++ i ∷ j ∷ [])) later
+  pub other-way :
+      trace c (before ++ j ∷ i ∷ later)
+      ≡ trace c before ++ answer (run c before) j ∷ answer (run c before) i ∷ trace (run c (before ++ i ∷ j ∷ [])) later
+
+abbrev pub SwapWithin : Type 0
+SwapWithin =
+    (c : Card) (before : List Item) (i j : Item) (later : List Item) (a b : ℕ) → names a i ≡ true → names b j ≡ true → (a ≡ b → ⊥)
+    → SwappedWithin c before i j later
+
+-- ==== demand 2: "What Set Features stores, Get Features hands back."
+
+-- no item of a list passes a test
+abbrev pub noneOf : (Item → Bool) → List Item → Bool
+noneOf p [] = true
+noneOf p (i ∷ is) = not (p i) && noneOf p is
+
+-- ---- 13h
+
+abbrev pub stores13 : Kind → Bool
+stores13 SetConfig = true
+stores13 SetWindow = false
+stores13 GetConfig = false
+stores13 GetWindow = false
+stores13 ReadLatency = false
+stores13 ReadAggregate = false
+stores13 Identify = false
+
+-- a Set Features 13h that names a set, carried out or refused
+abbrev pub configures : ℕ → Item → Bool
+configures id (reads named k) = false
+configures id (writes named k) = false
+configures id (excursion named) = false
+configures id (tick t) = false
+configures id (command bytes given room) = stores13 (kindOf (commandIn bytes)) && eqb (featureSet (commandIn bytes)) id
+
+-- "Get returns enable with the 512 bytes": those of the last Set Features 13h of the set, whatever other items came between.
+-- That the page says what was stored is `config-back` of pages/proofs/Back.antt.
+abbrev pub ConfigStored : Type 0
+ConfigStored =
+    (c : Card) (bytes given : List ℕ) (room : ℕ) (items : List Item) (bytes′ given′ : List ℕ) (room′ : ℕ)
+    → kindOf (commandIn bytes) ≡ SetConfig → statusOf c (command bytes given room) ≡ 0
+    → noneOf (configures (featureSet (commandIn bytes))) items ≡ true
+    → kindOf (commandIn bytes′) ≡ GetConfig → featureSet (commandIn bytes′) ≡ featureSet (commandIn bytes)
+    → statusOf (run c (command bytes given room ∷ items)) (command bytes′ given′ room′) ≡ 0
+    → answer (run c (command bytes given room ∷ items)) (command bytes′ given′ room′)
+    ≡ granted (bit (enable (commandIn bytes))) (configPage (configIn given))
+
+-- ---- 14h
+
+-- an item that names a set, or goes to every set
+abbrev pub reaches : ℕ → Item → Bool
+reaches id i = names id i || toAll i
+
+-- "or the window, in dword 0": that of the last Set Features 14h, as long as no event, no tick and no command reaches the set
+abbrev pub WindowStored : Type 0
+WindowStored =
+    (c : Card) (bytes given : List ℕ) (room : ℕ) (items : List Item) (bytes′ given′ : List ℕ) (room′ : ℕ)
+    → kindOf (commandIn bytes) ≡ SetWindow → statusOf c (command bytes given room) ≡ 0
+    → noneOf (reaches (featureSet (commandIn bytes))) items ≡ true
+    → kindOf (commandIn bytes′) ≡ GetWindow → featureSet (commandIn bytes′) ≡ featureSet (commandIn bytes)
+    → statusOf (run c (command bytes given room ∷ items)) (command bytes′ given′ room′) ≡ 0
+    → answer (run c (command bytes given room ∷ items)) (command bytes′ given′ room′)
+    ≡ granted (windowValue (commandIn bytes)) []
+
+-- ==== from the step to the words: all of the above holds of a lent table that is handed from item to item
+
+abbrev pub runWords : List ℕ → List Item → List ℕ
+runWords ws [] = ws
+runWords ws (i ∷ is) = runWords (stepWords ws i .table) is
+
+abbrev pub traceWords : List ℕ → List Item → List Answer
+traceWords ws [] = []
+traceWords ws (i ∷ is) = stepWords ws i .answer ∷ traceWords (stepWords ws i .table) is
+
+-- a legal table stays legal, holds the sets of the card's run, and has no other word changed
+pub record RanWords (ws : List ℕ) (items : List Item) : Type 0 where
+  pub legal : legalTable (runWords ws items) ≡ true
+  pub card : cardOf (runWords ws items) ≡ run (cardOf ws) items
+  pub words : runWords ws items ≡ written ws (run (cardOf ws) items .sets)
+
+abbrev pub WordsRun : Type 0
+WordsRun = (ws : List ℕ) (items : List Item) → legalTable ws ≡ true → RanWords ws items
+
+-- and the answers are the card's
+abbrev pub WordsTrace : Type 0
+WordsTrace = (ws : List ℕ) (items : List Item) → legalTable ws ≡ true → traceWords ws items ≡ trace (cardOf ws) items
+
+-- So on the words too, "two neighbouring items that name different sets may change places": not one word changes with them.
+pub record SwappedWords (ws : List ℕ) (before : List Item) (i j : Item) (later : List Item) : Type 0 where
+  pub same-words : runWords ws (before ++ i ∷ j ∷ later) ≡ runWords ws (before ++ j ∷ i ∷ later)
+  pub one-way :
+      traceWords ws (before ++ i ∷ j ∷ later)
+      ≡ traceWords ws before ++ stepWords (runWords ws before) i .answer ∷ stepWords (runWords ws before) j .answer
+      ∷ traceWords (runWords ws (before ++ i ∷ j ∷ [])) later
+  pub other-way :
+      traceWords ws (before ++ j ∷ i ∷ later)
+      ≡ traceWords ws before ++ stepWords (runWords ws before) j .answer ∷ stepWords (runWords ws before) i .answer
+      ∷ traceWords (runWords ws (before ++ i ∷ j ∷ [])) later
+
+abbrev pub WordsSwap : Type 0
+WordsSwap =
+    (ws : List ℕ) (before : List Item) (i j : Item) (later : List Item) (a b : ℕ) → legalTable ws ≡ true → names a i ≡ true
+    → names b j ≡ true → (a ≡ b → ⊥) → SwappedWords ws before i j later

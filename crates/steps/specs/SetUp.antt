@@ -1,0 +1,77 @@
+-- 01, set-up: "the core first takes the 84-byte bodies below". One definition, apart from the step.
+use mathlib.Core.Path.{_≡_}
+use mathlib.Core.Bool.{Bool, false, not, _&&_}
+use mathlib.Core.List.{List, [], _∷_, map}
+use Prim.Native.Nat.{ℕ, zero, suc, _+_, _/_, _%_}
+use lib.Dec.{ltb, eqb}
+use lib.ListN.{length, set}
+use Rattle.octets.specs.Choice.{if_then_else_}
+use Rattle.record.specs.declared.Window.the-variants.{Off}
+use Rattle.record.specs.declared.Attributes.{Attributes}
+use Rattle.record.specs.declared.State.{State}
+use Rattle.record.specs.declared.Record.{Record}
+use Rattle.record.specs.Record.{stateOf}
+use Rattle.record.specs.Events.{noEvents}
+use Rattle.record.specs.Legal.{maxSets, inRange, legalAttributes}
+use Rattle.replies.specs.Numbers.{tooShort, badSetUp}
+use Rattle.replies.specs.Status.{Line, line, firstOf}
+use Rattle.replies.specs.Answers.{granted, refused}
+use Rattle.table.specs.Table.{rowStart, legalSets, written}
+use Rattle.pages.specs.Bodies.{bodySize, attributesIn}
+use Rattle.steps.specs.Words.{Result}
+
+-- "Set-up starts all off and zero."
+abbrev pub newState : State
+newState = stateOf Off (record { enabled = noEvents; thresholds = record { reads = 0; writes = 0; time = 0 } }) 0 0 0 0
+
+abbrev pub newRecord : Attributes → Record
+newRecord a =
+    record {
+      attributes = a;
+      state = newState;
+      notes = record { events = noEvents; listed = false };
+    }
+
+-- the attributes of n bodies from a place on
+abbrev pub attributesFrom : List ℕ → ℕ → ℕ → List Attributes
+attributesFrom bytes at zero = []
+attributesFrom bytes at (suc n) = attributesIn bytes at ∷ attributesFrom bytes (at + bodySize) n
+
+abbrev pub bodies : List ℕ → ℕ
+bodies bytes = length bytes / bodySize
+
+-- attributes in range, the identifier above the one before: only for the function that tests one body
+abbrev pub followsOf : ℕ → Attributes → Bool
+followsOf before a = legalAttributes a && ltb before (a .id .0)
+
+-- the sets that the bodies make
+unfoldable pub newSets : List ℕ → List Record
+newSets bytes = map newRecord (attributesFrom bytes 0 (bodies bytes))
+
+-- "Set-up: number of sets, order, an attribute or a body's length wrong 07C4h, then table slice too short 07C2h."
+abbrev pub setUpLines : List ℕ → ℕ → List Line
+setUpLines bytes words =
+    line (not (inRange maxSets (bodies bytes))) badSetUp
+    ∷ line (not (eqb (length bytes % bodySize) 0)) badSetUp
+    ∷ line (not (legalSets 0 (newSets bytes))) badSetUp
+    ∷ line (ltb words (rowStart (bodies bytes))) tooShort
+    ∷ []
+
+unfoldable pub setUpStatus : List ℕ → ℕ → ℕ
+setUpStatus bytes words = firstOf (setUpLines bytes words)
+
+-- the header with its number of sets, and the new sets in their slots; the words past them are as they were
+abbrev pub newTable : List ℕ → List ℕ → List ℕ
+newTable bytes ws = written (set ws 0 (bodies bytes)) (newSets bytes)
+
+-- the words afterwards, and the answer: "Each refusal is given exactly then, .. nothing written."
+unfoldable pub setUp : List ℕ → List ℕ → Result
+setUp bytes ws =
+    if eqb (setUpStatus bytes (length ws)) 0
+    then record { table = newTable bytes ws; answer = granted 0 [] }
+    else record { table = ws; answer = refused (setUpStatus bytes (length ws)) }
+
+-- what set-up promises: the words that it leaves, and the number that it answers
+pub record SetUp (bytes ws after : List ℕ) (number : ℕ) : Type 0 where
+  pub table : after ≡ setUp bytes ws .table
+  pub status : number ≡ setUp bytes ws .answer .status

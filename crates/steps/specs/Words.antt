@@ -1,0 +1,45 @@
+-- The step on the lent words.
+use mathlib.Core.Path.{_≡_}
+use mathlib.Core.List.{List}
+use Prim.Native.Nat.{ℕ}
+use Rattle.octets.specs.Choice.{if_then_else_}
+use Rattle.replies.specs.Numbers.{badTable}
+use Rattle.replies.specs.declared.Reply.{Reply}
+use Rattle.replies.specs.Answers.{Answer, refused, Replied}
+use Rattle.table.specs.Table.{recordsOf, legalTable, written}
+use Rattle.steps.specs.Items.{Card, Item}
+use Rattle.steps.specs.Card.{step}
+
+-- the card that a table holds
+abbrev pub cardOf : List ℕ → Card
+cardOf ws = record { sets = recordsOf ws }
+
+-- the words afterwards, and the answer
+pub record Result : Type 0 where
+  pub table : List ℕ
+  pub answer : Answer
+
+-- 01: "table not legal, or slice too short": 07C3h, and nothing changed. Else the card's step, written back.
+unfoldable pub stepWords : List ℕ → Item → Result
+stepWords ws i =
+    if legalTable ws
+    then record { table = written ws (step (cardOf ws) i .card .sets); answer = step (cardOf ws) i .answer }
+    else record { table = ws; answer = refused badTable }
+
+-- What a media event or a tick promises: the words that it leaves, and the number that it answers.
+-- (Its dword 0 is zero and it has no data: `plain` and `plain-tick` of proofs/Plain.antt.)
+pub record Stepped (ws : List ℕ) (i : Item) (after : List ℕ) (number : ℕ) : Type 0 where
+  pub table : after ≡ stepWords ws i .table
+  pub status : number ≡ stepWords ws i .answer .status
+
+-- What a command promises: the words that it leaves, its reply, and every byte of the answer buffer.
+pub record Answered (ws : List ℕ) (i : Item) (before : List ℕ) (r : Reply) (words buffer : List ℕ) : Type 0 where
+  pub table : words ≡ stepWords ws i .table
+  pub reply : Replied (stepWords ws i .answer) before r buffer
+
+-- The same where the written part is handed back: the buffer itself is lent on with it, so nothing can be said of the bytes after it.
+pub record Handed (ws : List ℕ) (i : Item) (words : List ℕ) (status dword : ℕ) (part : List ℕ) : Type 0 where
+  pub table : words ≡ stepWords ws i .table
+  pub status-is : status ≡ stepWords ws i .answer .status
+  pub dword-is : dword ≡ stepWords ws i .answer .dword
+  pub part-is : part ≡ stepWords ws i .answer .bytes
