@@ -1,20 +1,23 @@
--- The laws of specs/Records.antt, and that its statement allows one outcome.
-use mathlib.Core.Path.{_≡_, refl, sym, _∙_}
+-- What the step makes of a record, by its rule; that it stays legal; and that the statement of a charge allows one outcome.
+use mathlib.Core.Path.{_≡_, refl, sym, subst, _∙_}
+use mathlib.Core.Bool.{true}
 use Prim.Native.Nat.{ℕ}
 use Rattle.record.specs.declared.Record.{Record}
-use Rattle.record.specs.Legal.{KeepsState}
+use Rattle.record.specs.Events.{settled}
+use Rattle.record.specs.Legal.{legalRecord, KeepsState}
 use Rattle.rules.proofs.Keeps.{keeps-record, read-event-keeps, write-event-keeps, excursion-keeps}
 use Rattle.table.specs.Table.{idOf}
 use Rattle.steps.specs.declared.Media.{Media}
 use Rattle.steps.specs.declared.Media.the-variants.{Reads, Writes, Excursion}
-use Rattle.steps.specs.Media.{mediaRule}
-use Rattle.steps.specs.Card.{effectOn}
+use Rattle.steps.specs.Media.{itemOf, mediaRule}
+use Rattle.steps.specs.Card.{effectOn, ruled}
 use Rattle.steps.proofs.Events.{meaning-media}
-use Rattle.by_reference.specs.Records.{ChargedInPlace, AsTheStep, StaysLegal}
+use Rattle.by_reference.specs.Records.{ChargedInPlace, StaysLegal}
 
-pub as-the-step : AsTheStep
+-- the step's rule for an event is the media layer's
+pub media-ruled : (m : Media) (r : Record) → settled r (mediaRule m (r .attributes) (r .state)) ≡ ruled (itemOf (idOf r) m) r
 unfolding effectOn
-as-the-step m r h = rw (h, meaning-media (idOf r) m) refl
+media-ruled m r = rw (meaning-media (idOf r) m) refl
 
 media-keeps : (m : Media) → KeepsState (mediaRule m)
 media-keeps (Reads k) = read-event-keeps k
@@ -22,7 +25,7 @@ media-keeps (Writes k) = write-event-keeps k
 media-keeps Excursion = excursion-keeps
 
 pub stays-legal : StaysLegal
-stays-legal m r h = rw h (keeps-record (mediaRule m) (media-keeps m) r h)
+stays-legal m r h = rw h (subst (λ (x : Record). legalRecord x ≡ true) (media-ruled m r) (keeps-record (mediaRule m) (media-keeps m) r h))
 
 pub one-charge : (m : Media) (r v w : Record) (s t : ℕ) → ChargedInPlace m r v s → ChargedInPlace m r w t → (v ≡ w) × (s ≡ t)
 one-charge m r v w s t h k = (h .left ∙ sym (k .left), h .status ∙ sym (k .status))

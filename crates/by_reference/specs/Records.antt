@@ -5,19 +5,19 @@ use Prim.Native.Nat.{ℕ}
 use Rattle.octets.specs.Choice.{if_then_else_}
 use Rattle.replies.specs.Numbers.{badTable}
 use Rattle.record.specs.declared.Record.{Record}
-use Rattle.record.specs.Events.{settled}
 use Rattle.record.specs.Legal.{legalRecord}
 use Rattle.steps.specs.declared.Media.{Media}
 use Rattle.table.specs.Table.{idOf}
-use Rattle.steps.specs.Media.{itemOf, mediaRule}
+use Rattle.steps.specs.Media.{itemOf}
 use Rattle.steps.specs.Card.{ruled}
 use Rattle.by_reference.specs.declared.records.Charged.{Charged}
 
--- the record after an event and the status number: 07C3h for one that is not legal, which stays as it is
+-- the record that the step makes of it where an event names it, and the status number; 07C3h for one that is not legal, which stays
+-- as it is
 abbrev pub charged : Media → Record → Charged
 charged m r =
     if legalRecord r
-    then record { «record» = settled r (mediaRule m (r .attributes) (r .state)); status = 0 }
+    then record { «record» = ruled (itemOf (idOf r) m) r; status = 0 }
     else record { «record» = r; status = badTable }
 
 -- what a charge in place promises: the record that it leaves, and the number that it answers
@@ -25,12 +25,6 @@ pub record ChargedInPlace (m : Media) (before after : Record) (number : ℕ) : T
   pub left : after ≡ charged m before .«record»
   pub status : number ≡ charged m before .status
 
--- ---- Two laws, each proved under its name, in lower case and with dashes, in proofs/OfRecord.antt.
-
--- a charged record is what the step makes of it on any card that has it
-abbrev pub AsTheStep : Type 0
-AsTheStep = (m : Media) (r : Record) → legalRecord r ≡ true → charged m r .«record» ≡ ruled (itemOf (idOf r) m) r
-
--- "Legal table", for one record
+-- "Legal table", for one record: proved as `stays-legal` in proofs/OfRecord.antt
 abbrev pub StaysLegal : Type 0
 StaysLegal = (m : Media) (r : Record) → legalRecord r ≡ true → legalRecord (charged m r .«record») ≡ true
