@@ -57,7 +57,7 @@ use table::legal;
 use table::load;
 use table::store;
 
-fn refuse(status: u16) -> Reply
+pub fn refuse(status: u16) -> Reply
     ensures { λ r. ⌜ r ≡ refusing status ⌝ }
 {
     Reply {
@@ -164,7 +164,7 @@ fn from_by(k: Kind, c: Command) -> usize
     }
 }
 
-fn named_by(k: Kind, c: Command) -> u16
+pub fn named_by(k: Kind, c: Command) -> u16
     ensures { λ n. ⌜ n ≡ namedBy k c ⌝ }
 {
     match k {
@@ -179,7 +179,7 @@ fn named_by(k: Kind, c: Command) -> u16
 }
 
 // The data of a command on a set, from the record before it is changed. A command without data makes no page.
-fn hand_by(k: Kind, c: Command, r: Record, answer: &mut [u8]) -> Reply
+pub fn hand_by(k: Kind, c: Command, r: Record, answer: &mut [u8]) -> Reply
     requires { ⌜ (isNamed k ≡ true) × (fromBy k c ≤ latencySize) × (needsOut k c ≤ length (now answer)) ⌝ }
     ensures { λ x. ⌜ Replied (doneBy k c r) (now (answer .entry)) x (now (answer .exit)) ⌝ }
 {
@@ -198,7 +198,7 @@ fn hand_by(k: Kind, c: Command, r: Record, answer: &mut [u8]) -> Reply
 }
 
 // The record after a command that is carried out.
-fn after_command(r: Record, k: Kind, c: Command, given: &[u8]) -> Record
+pub fn after_command(r: Record, k: Kind, c: Command, given: &[u8]) -> Record
     requires { ⌜ needsIn k ≤ length (now given) ⌝ }
     ensures { λ x. ⌜ x ≡ settled r (ruleBy k c (now (given .entry)) (r .attributes) (r .state)) ⌝ }
 {
@@ -208,7 +208,7 @@ fn after_command(r: Record, k: Kind, c: Command, given: &[u8]) -> Record
     settle(r, e)
 }
 
-fn status_on(k: Kind, c: Command, given: usize, room: usize, r: Record) -> u16
+pub fn status_on(k: Kind, c: Command, given: usize, room: usize, r: Record) -> u16
     ensures { λ x. ⌜ x ≡ statusOn k c given room r ⌝ }
 {
     let a = r.attributes;
@@ -281,7 +281,7 @@ fn answer_identify(table: &[u64], c: Command, given: usize, answer: &mut [u8]) -
     }
 }
 
-fn is_named(k: Kind) -> bool
+pub fn is_named(k: Kind) -> bool
     ensures { λ r. ⌜ r ≡ isNamed k ⌝ }
 {
     match k {

@@ -78,7 +78,7 @@ pub fn excursion(table: &mut [u64], id: SetId) -> u16
     event(table, id, Media::Excursion)
 }
 
-fn after_tick(r: Record, t: u32) -> Record
+pub fn after_tick(r: Record, t: u32) -> Record
     ensures { λ x. ⌜ x ≡ tickOne t r ⌝ }
 {
     let a = r.attributes;
@@ -99,7 +99,7 @@ fn tick_all(table: &mut [u64], n: usize, t: u32)
     }
 }
 
-const DAY_MS: u32 = 86400000;
+pub const DAY_MS: u32 = 86400000;
 
 pub fn ticks(table: &mut [u64], t: u32) -> u16
     ensures { λ r. ⌜ Stepped (now (table .entry)) (Item.tick t) (now (table .exit)) r ⌝ }

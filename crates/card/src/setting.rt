@@ -47,7 +47,7 @@ fn off() -> State
     }
 }
 
-fn new_record(a: Attributes) -> Record
+pub fn new_record(a: Attributes) -> Record
     ensures { λ r. ⌜ r ≡ newRecord a ⌝ }
 {
     let state = off();
@@ -106,7 +106,7 @@ fn write_rows(table: &mut [u64], bytes: &[u8], n: usize)
     }
 }
 
-fn refusal(bytes: &[u8], words: usize) -> u16
+pub fn refusal(bytes: &[u8], words: usize) -> u16
     ensures { λ r. ⌜ r ≡ setUpStatus (now (bytes .entry)) words ⌝ }
 {
     let n = bytes.len() / BODY;

@@ -8,9 +8,10 @@ use Rattle.steps.specs.Words.{Result, stepWords}
 use Rattle.steps.specs.SetUp.{setUp}
 use Rattle.steps.proofs.OnWords.{refused-words}
 use Rattle.steps.proofs.Exact.{exactly-words, set-up-refused, set-up-exactly}
-use Rattle.card_c.specs.Entries.{tableIn, tableOut, EventAtC, SetUpAtC, CommandAtC}
+use Rattle.region.specs.Region.{tableIn, tableOut}
+use Rattle.region.proofs.Words.{own-region}
+use Rattle.card_c.specs.Entries.{EventAtC, SetUpAtC, CommandAtC}
 use Rattle.card_c.specs.Demands.{RefusedEvent, RefusedSetUp, RefusedCommand}
-use Rattle.card_c.proofs.Region.{own-region}
 
 pub refused-event : RefusedEvent
 refused-event region i after number each e n =

@@ -2,23 +2,15 @@
 -- its words' little-endian bytes." What each of them promises, through the same step and the same set-up.
 use mathlib.Core.Path.{_≡_}
 use mathlib.Core.List.{List, [], _∷_}
-use Prim.Native.Nat.{ℕ, _/_, min}
+use Prim.Native.Nat.{ℕ, min}
 use lib.ListN.{length}
 use lib.Seq.{sets}
 use Rattle.octets.specs.Octets.{padded}
 use Rattle.octets.specs.Pages.{field, place}
-use Rattle.octets.specs.Words.{wordSize, wordsFrom, putWords}
+use Rattle.region.specs.Region.{tableIn, tableOut}
 use Rattle.steps.specs.Items.{Item}
 use Rattle.steps.specs.Words.{stepWords}
 use Rattle.steps.specs.SetUp.{setUp}
-
--- the words of a region: of a length that is no multiple of 8 the whole words count, and the rest is past the table
-abbrev pub tableIn : List ℕ → List ℕ
-tableIn region = wordsFrom region 0 (length region / wordSize)
-
--- the region with other words in their place
-abbrev pub tableOut : List ℕ → List ℕ → List ℕ
-tableOut region ws = putWords region 0 ws
 
 -- a media event or a tick: the region afterwards, and the number returned
 pub record EventAtC (region : List ℕ) (i : Item) (after : List ℕ) (number : ℕ) : Type 0 where

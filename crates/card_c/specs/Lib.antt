@@ -1,3 +1,3 @@
 pub mod Entries
-pub mod Lent
+pub mod InPlace
 pub mod Demands

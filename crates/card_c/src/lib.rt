@@ -1,22 +1,24 @@
 // The card for C: functions on numbers and byte slices, each slice a pointer and a length. include/card.h describes them.
-mod lent;
+mod answering;
+mod media;
 mod reply;
+mod setting;
+mod views;
 
 ghost use lib.ListN.{length};
 ghost use Rattle.steps.specs.Items.{Item};
 ghost use Rattle.card_c.specs.Entries.{EventAtC, SetUpAtC, CommandAtC};
-use crate::lent::Report;
-use crate::lent::answer_lent;
-use crate::lent::new_table;
-use crate::lent::note;
+use crate::media::event;
+use crate::media::ticks;
 use crate::reply::put_reply;
+use crate::setting::set_up;
 use steps::Media;
 
 #[no_mangle]
 pub extern "C" fn card_set_up(table: &mut [u8], bodies: &[u8]) -> u16
     ensures { λ r. ⌜ SetUpAtC (now (bodies .entry)) (now (table .entry)) (now (table .exit)) r ⌝ }
 {
-    new_table(table, bodies)
+    set_up(table, bodies)
 }
 
 #[no_mangle]
@@ -29,7 +31,7 @@ pub extern "C" fn card_command(
 ) -> u16
     ensures { λ r. ⌜ CommandAtC (now (table .entry)) (Item.command (now (command .entry)) (now (given .entry)) (length (now (answer .entry)))) (now (answer .entry)) (now (reply .entry)) r (now (table .exit)) (now (answer .exit)) (now (reply .exit)) ⌝ }
 {
-    let r = answer_lent(table, command, given, answer);
+    let r = crate::answering::command(table, command, given, answer);
     put_reply(reply, r.dword, r.len);
     r.status
 }
@@ -38,26 +40,26 @@ pub extern "C" fn card_command(
 pub extern "C" fn card_reads(table: &mut [u8], set: u16, count: u16) -> u16
     ensures { λ r. ⌜ EventAtC (now (table .entry)) (Item.reads set count) (now (table .exit)) r ⌝ }
 {
-    note(table, Report::OfSet(set, Media::Reads(count)))
+    event(table, set, Media::Reads(count))
 }
 
 #[no_mangle]
 pub extern "C" fn card_writes(table: &mut [u8], set: u16, count: u16) -> u16
     ensures { λ r. ⌜ EventAtC (now (table .entry)) (Item.writes set count) (now (table .exit)) r ⌝ }
 {
-    note(table, Report::OfSet(set, Media::Writes(count)))
+    event(table, set, Media::Writes(count))
 }
 
 #[no_mangle]
 pub extern "C" fn card_excursion(table: &mut [u8], set: u16) -> u16
     ensures { λ r. ⌜ EventAtC (now (table .entry)) (Item.excursion set) (now (table .exit)) r ⌝ }
 {
-    note(table, Report::OfSet(set, Media::Excursion))
+    event(table, set, Media::Excursion)
 }
 
 #[no_mangle]
 pub extern "C" fn card_tick(table: &mut [u8], milliseconds: u32) -> u16
     ensures { λ r. ⌜ EventAtC (now (table .entry)) (Item.tick milliseconds) (now (table .exit)) r ⌝ }
 {
-    note(table, Report::Tick(milliseconds))
+    ticks(table, milliseconds)
 }

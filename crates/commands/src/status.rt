@@ -1,11 +1,12 @@
 // 01's status table, for every command.
 ghost use mathlib.Core.Path.{_≡_};
-ghost use mathlib.Core.Bool.{true, _||_};
+ghost use mathlib.Core.Bool.{true, _&&_, _||_};
 ghost use mathlib.Core.List.{[], _∷_, _++_};
 ghost use lib.Dec.{eqb, ltb};
 ghost use Rattle.octets.specs.Choice.{if_then_else_};
 ghost use Rattle.replies.specs.Status.{line, firstOf};
-ghost use Rattle.commands.specs.Commands.{needsIn, needsOut};
+ghost use Rattle.rules.specs.Rules.{tooEarly};
+ghost use Rattle.commands.specs.Commands.{windowCause, needsIn, needsOut};
 ghost use Rattle.commands.specs.StatusTable.{partWrong, earlyLines, unknownNumber, about14, stores14, isOff, windowWrong, shortLine, lateLines};
 use crate::Command;
 use crate::Kind;
@@ -38,6 +39,13 @@ fn part_wrong(c: Command) -> bool
     !(from % 4 == 0) | (size < from) | (1024 < moved)
 }
 
+// Only of a read of a log page is the part looked at.
+fn log_wrong(log: bool, c: Command) -> bool
+    ensures { λ r. ⌜ r ≡ (log && partWrong c) ⌝ }
+{
+    if log { part_wrong(c) } else { false }
+}
+
 // The rows before the set is looked up.
 fn early_status(c: Command) -> u16
     ensures { λ r. ⌜ r ≡ firstOf (earlyLines c) ⌝ }
@@ -51,14 +59,14 @@ fn early_status(c: Command) -> u16
     let page = (chosen == 0x0A) | (chosen == 0x0B);
     let save = saves(c);
     let select = selected_by(c);
-    let wrong = part_wrong(c);
+    let wrong = log_wrong(log, c);
     let tests = [
         !c.whole,
         !(log | identify | set | get),
         ((set | get) & !fid) | (identify & !(chosen == 0x04)),
         log & !page,
         set & save,
-        (get & !(select == 0)) | (log & wrong),
+        (get & !(select == 0)) | wrong,
     ];
     replies::first(&tests, &[0x07C7, 0x0001, 0x0002, 0x0109, 0x010D, 0x0002])
 }
@@ -120,15 +128,26 @@ fn too_short(k: Kind, c: Command, given: usize, room: usize) -> bool
     (given < wanted) | (has < written)
 }
 
+// Only of a command that selects a window is the time looked at.
+fn selects_early(stores: bool, c: Command, a: Attributes, s: State) -> bool
+    ensures { λ r. ⌜ r ≡ (stores && tooEarly (windowCause c) a s) ⌝ }
+{
+    if stores {
+        too_early(a, s, window_cause(c))
+    } else {
+        false
+    }
+}
+
 // The rows after it.
 fn late_status(k: Kind, c: Command, given: usize, room: usize, a: Attributes, s: State) -> u16
     ensures { λ r. ⌜ r ≡ firstOf (lateLines k c given room a s) ⌝ }
 {
     let wrong = window_wrong(k, c, s);
     let short = too_short(k, c, given, room);
-    let early = too_early(a, s, window_cause(c));
     let stores = is_set14(k);
-    let tests = [wrong, short, stores & early];
+    let early = selects_early(stores, c, a, s);
+    let tests = [wrong, short, early];
     replies::first(&tests, &[0x0002, 0x07C2, 0x07C1])
 }
 

@@ -4,3 +4,4 @@ pub mod Turns
 pub mod Laws
 pub mod Pages
 pub mod Passed
+pub mod InPlace

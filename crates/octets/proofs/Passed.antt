@@ -134,13 +134,3 @@ words-append l at zero m = ap₂ (wordsFrom l) (omega arith) (zero-add m)
 words-append l at (suc n) m =
     let e : at + wordSize + n * wordSize ≡ at + suc n * wordSize = omega arith in
     rw (suc-add n m) (ap (_∷_ (numberOf (part l at wordSize))) (words-append l (at + wordSize) n m ∙ ap (λ (k : ℕ). wordsFrom l (at + wordSize) n ++ wordsFrom l k m) e))
-
--- words put over the first of a region's own, with the others as they were
-pub put-first :
-    (xs l : List ℕ) (n m : ℕ) → AllBytes l → length xs ≡ n → (n + m) * wordSize ≤ length l
-    → putWords l 0 (xs ++ wordsFrom l (n * wordSize) m) ≡ putWords l 0 xs
-put-first xs l n m each e h =
-    let at : 0 + length xs * wordSize ≡ n * wordSize = omega arith in
-    put-append xs (wordsFrom l (n * wordSize) m) l 0
-    ∙ ap (λ (k : ℕ). putWords (putWords l 0 xs) k (wordsFrom l (n * wordSize) m)) at
-    ∙ own-words m (n * wordSize) (putWords l 0 xs) l each (put-rest xs l 0 (n * wordSize) (omega arith)) (omega arith)

@@ -88,7 +88,12 @@ fn put_row(page: &mut [u8], row: [u64; 3])
 {
     let at = row[0] as usize;
     let width = row[1] as usize;
-    put(page, at, width, row[2]);
+    // With a constant width the compiler stores the eight bytes at once.
+    if width == 8 {
+        put(page, at, 8, row[2]);
+    } else {
+        put(page, at, width, row[2]);
+    }
 }
 
 // The fields of a table, put on a page in order.

@@ -21,12 +21,12 @@ pub fn word_at(bytes: &[u8], at: usize) -> u64
         + wide(bytes[at + 7]) * 0x100000000000000
 }
 
-// The first words of the bytes, as many as are lent.
-pub fn words_in(bytes: &[u8], words: &mut [u64])
-    requires { ⌜ length (now words) * wordSize ≤ length (now bytes) ⌝ }
-    ensures { λ _. ⌜ now (words .exit) ≡ wordsFrom (now (bytes .entry)) 0 (length (now (words .entry))) ⌝ }
+// The words from a place on, as many as are lent.
+pub fn words_in(bytes: &[u8], from: usize, words: &mut [u64])
+    requires { ⌜ from + length (now words) * wordSize ≤ length (now bytes) ⌝ }
+    ensures { λ _. ⌜ now (words .exit) ≡ wordsFrom (now (bytes .entry)) from (length (now (words .entry))) ⌝ }
 {
-    let mut at = 0;
+    let mut at = from;
     let mut i = 0;
     while i < words.len() {
         words[i] = word_at(bytes, at);
@@ -35,12 +35,12 @@ pub fn words_in(bytes: &[u8], words: &mut [u64])
     }
 }
 
-// The words' bytes, put at the start.
-pub fn words_out(words: &[u64], bytes: &mut [u8])
-    requires { ⌜ length (now words) * wordSize ≤ length (now bytes) ⌝ }
-    ensures { λ _. ⌜ now (bytes .exit) ≡ putWords (now (bytes .entry)) 0 (now (words .entry)) ⌝ }
+// The words' bytes, put from a place on.
+pub fn words_out(words: &[u64], bytes: &mut [u8], from: usize)
+    requires { ⌜ from + length (now words) * wordSize ≤ length (now bytes) ⌝ }
+    ensures { λ _. ⌜ now (bytes .exit) ≡ putWords (now (bytes .entry)) from (now (words .entry)) ⌝ }
 {
-    let mut at = 0;
+    let mut at = from;
     let mut i = 0;
     while i < words.len() {
         crate::put(bytes, at, 8, words[i]);

@@ -3,10 +3,11 @@ use mathlib.Core.Path.{_≡_, refl}
 use mathlib.Core.Bool.{Bool, true, false, not, _&&_, _||_, or-true}
 use Rattle.octets.proofs.Tests.{and-left}
 use Rattle.record.specs.declared.Events.{Events}
+use Rattle.record.specs.declared.Notes.{Notes}
 use Rattle.record.specs.declared.Record.{Record}
 use Rattle.record.specs.declared.Effect.{Effect}
-use Rattle.record.specs.Events.{eventsOf, anyEnabled, joined, settled}
-use Rattle.record.specs.Legal.{someEvent, legalNotes}
+use Rattle.record.specs.Events.{eventsOf, someEvent, anyEnabled, joined, settled, isSilent}
+use Rattle.record.specs.Legal.{legalNotes}
 
 or-more : (a b a′ b′ : Bool) → (a ≡ true → a′ ≡ true) → (b ≡ true → b′ ≡ true) → a || b ≡ true → a′ || b′ ≡ true
 or-more true b a′ b′ f g h = rw (f refl)
@@ -72,3 +73,32 @@ marked false listed false old new on e h = refl
 pub notes-kept : (r : Record) (e : Effect) → legalNotes (r .notes) ≡ true → legalNotes (settled r e .notes) ≡ true
 notes-kept r e h =
     marked (not (e .clears)) (r .notes .listed) _ (r .notes .events) (e .happened) (r .state .config .enabled) refl h
+
+-- ---- an effect that is silent leaves the notes
+
+kept : (b : Bool) → true && b || false ≡ b
+kept true = refl
+kept false = refl
+
+abbrev notesAfter : Bool → Events → Notes → Events → Notes
+notesAfter clears new n enabled =
+    record {
+      events = joined (not clears) (n .events) new;
+      listed = not clears && n .listed || anyEnabled new enabled;
+    }
+
+quiet : (i o t x y c : Bool) (n : Notes) (enabled : Events) → not (i || o || t || x || y) && not c ≡ true → notesAfter c (eventsOf i o t x y) n enabled ≡ n
+quiet false false false false false false n enabled h =
+    let e = n .events in
+    rw (kept (e .reads), kept (e .writes), kept (e .time), kept (e .exceeded), kept (e .excursion), kept (n .listed))
+quiet true o t x y c n enabled h = cc
+quiet false true t x y c n enabled h = cc
+quiet false false true x y c n enabled h = cc
+quiet false false false true y c n enabled h = cc
+quiet false false false false true c n enabled h = cc
+quiet false false false false false true n enabled h = cc
+
+pub silent-notes : (r : Record) (e : Effect) → isSilent e ≡ true → settled r e .notes ≡ r .notes
+silent-notes r e h =
+    let n = e .happened in
+    quiet (n .reads) (n .writes) (n .time) (n .exceeded) (n .excursion) (e .clears) (r .notes) (r .state .config .enabled) h

@@ -38,6 +38,9 @@ eventsOf i o t x y = record { reads = i; writes = o; time = t; exceeded = x; exc
 abbrev pub noEvents : Events
 noEvents = eventsOf false false false false false
 
+abbrev pub someEvent : Events → Bool
+someEvent e = e .reads || e .writes || e .time || e .exceeded || e .excursion
+
 -- a bit's number
 abbrev pub bit : Bool → ℕ
 bit b = if b then 1 else 0
@@ -111,6 +114,10 @@ settled r e =
         listed = not (e .clears) && r .notes .listed || anyEnabled (e .happened) (r .state .config .enabled);
       };
     }
+
+-- an effect without event or clearing read, which leaves the notes as they are
+abbrev pub isSilent : Effect → Bool
+isSilent e = not (someEvent (e .happened)) && not (e .clears)
 
 -- "The listed marks of all sets are gathered as one word of bits": the first set's is the lowest
 abbrev pub wordOf : List Bool → ℕ

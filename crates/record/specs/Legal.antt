@@ -6,14 +6,13 @@ use mathlib.Core.Bool.{Bool, true, not, _&&_, _||_}
 use lib.Dec.{leb, ltb, eqb}
 use Rattle.record.specs.declared.Capacity.{Capacity}
 use Rattle.record.specs.declared.Attributes.{Attributes}
-use Rattle.record.specs.declared.Events.{Events}
 use Rattle.record.specs.declared.State.{State}
 use Rattle.record.specs.declared.Notes.{Notes}
 use Rattle.record.specs.declared.Record.{Record}
 use Rattle.record.specs.declared.Effect.{Effect}
 use Rattle.record.specs.Record.{need}
 use Rattle.record.specs.Window.{byWindow}
-use Rattle.record.specs.Events.{settled}
+use Rattle.record.specs.Events.{someEvent, settled}
 
 -- "Up to 31 sets."
 abbrev pub maxSets : ℕ
@@ -72,9 +71,6 @@ legalState a s =
     (noneSpent s && eqb (s .«n_time») 0)
     (withinLimits a s && eqb (s .«n_time») 0)
     (noneSpent s && leb (s .«n_time») (need a))
-
-abbrev pub someEvent : Events → Bool
-someEvent e = e .reads || e .writes || e .time || e .exceeded || e .excursion
 
 -- "listed only if some event bit is set"
 abbrev pub legalNotes : Notes → Bool

@@ -1,25 +1,25 @@
 // Legality of one record, as a test.
 ghost use mathlib.Core.Path.{_≡_};
-ghost use Rattle.record.specs.Legal.{inRange, notAbove, legalAttributes, noneSpent, withinLimits, legalState, someEvent, legalNotes, legalRecord};
+ghost use Rattle.record.specs.Legal.{inRange, notAbove, legalAttributes, noneSpent, withinLimits, legalState, legalNotes, legalRecord};
 use crate::Attributes;
 use crate::Capacity;
-use crate::Events;
 use crate::Notes;
 use crate::Record;
 use crate::State;
 use crate::Window;
+use crate::notices::some_event;
 use crate::quantities::need_of;
 
 pub const MAX_SETS: usize = 31;
 
-const NUMBER_MAXIMUM: u64 = 65535;
+pub const NUMBER_MAXIMUM: u64 = 65535;
 
 // A field of 4 bytes holds no more: the type says it again.
 const FOUR_BYTES_MAXIMUM: u32 = 4294967295;
 
-const TYPICAL_MAXIMUM: u64 = 4294967295;
+pub const TYPICAL_MAXIMUM: u64 = 4294967295;
 
-const DAY_MS: u64 = 86400000;
+pub const DAY_MS: u64 = 86400000;
 
 fn in_range(most: u64, x: u64) -> bool
     ensures { λ r. ⌜ r ≡ inRange most x ⌝ }
@@ -76,12 +76,6 @@ pub fn state_legal(a: Attributes, s: State) -> bool
         Window::D => within & (s.n_time == 0),
         Window::N => none & (s.n_time <= need),
     }
-}
-
-fn some_event(e: Events) -> bool
-    ensures { λ r. ⌜ r ≡ someEvent e ⌝ }
-{
-    e.reads | e.writes | e.time | e.exceeded | e.excursion
 }
 
 pub fn notes_legal(n: Notes) -> bool

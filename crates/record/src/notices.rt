@@ -1,7 +1,7 @@
 // Estimates, warnings, and the one place that writes events and the listed mark.
 ghost use mathlib.Core.Path.{_≡_};
 ghost use Prim.Native.Nat.{_<_, _≤_};
-ghost use Rattle.record.specs.Events.{estimate, bit, bitsOf, eventsIn, eventsOf, noEvents, warning, warns, startsBelow, enteringD, andExceeded, anExcursion, anyEnabled, joined, settled};
+ghost use Rattle.record.specs.Events.{estimate, bit, bitsOf, eventsIn, eventsOf, noEvents, someEvent, warning, warns, startsBelow, enteringD, andExceeded, anExcursion, anyEnabled, joined, settled, isSilent};
 use crate::Attributes;
 use crate::Config;
 use crate::Effect;
@@ -128,6 +128,21 @@ pub fn entering_d(a: Attributes, c: Config) -> Events
     let o = starts_below(a, c, Quantity::Writes);
     let t = starts_below(a, c, Quantity::Time);
     events_of(i, o, t, false, false)
+}
+
+pub fn some_event(e: Events) -> bool
+    ensures { λ r. ⌜ r ≡ someEvent e ⌝ }
+{
+    e.reads | e.writes | e.time | e.exceeded | e.excursion
+}
+
+// Whether an effect leaves the notes as they are.
+pub fn is_silent(e: Effect) -> bool
+    ensures { λ r. ⌜ r ≡ isSilent e ⌝ }
+{
+    let happened = e.happened;
+    let some = some_event(happened);
+    !some & !e.clears
 }
 
 fn any_enabled(happened: Events, enabled: Events) -> bool

@@ -9,7 +9,7 @@ use Rattle.record.specs.Window.{windowNo}
 use Rattle.rules.specs.declared.Cause.{Cause}
 use Rattle.rules.specs.declared.Cause.the-variants.{Enable, Disable, SelectD, SelectN, Excursion, Exceeded, TimeUp}
 use Rattle.rules.specs.declared.Next.{Next}
-use Rattle.rules.specs.declared.Next.the-variants.{Never, Refuse, To}
+use Rattle.rules.specs.declared.Next.the-variants.{Never, Refuse, ToOff, ToD, ToN}
 
 -- the table's columns
 abbrev pub causeNo : Cause → ℕ
@@ -24,9 +24,9 @@ causeNo TimeUp = 6
 -- the table; its "if time is spent" is `tooEarly` of Rules
 abbrev pub changes : List (List Next)
 changes =
-    (To N ∷ To Off ∷ Refuse ∷ Refuse ∷ To Off ∷ Never ∷ Never ∷ [])
-    ∷ (To N ∷ To Off ∷ To D ∷ To N ∷ To N ∷ To N ∷ To N ∷ [])
-    ∷ (To N ∷ To Off ∷ To D ∷ To N ∷ To N ∷ Never ∷ Never ∷ [])
+    (ToN ∷ ToOff ∷ Refuse ∷ Refuse ∷ ToOff ∷ Never ∷ Never ∷ [])
+    ∷ (ToN ∷ ToOff ∷ ToD ∷ ToN ∷ ToN ∷ ToN ∷ ToN ∷ [])
+    ∷ (ToN ∷ ToOff ∷ ToD ∷ ToN ∷ ToN ∷ Never ∷ Never ∷ [])
     ∷ []
 
 -- the entry for a window and a cause
@@ -37,7 +37,9 @@ next w c = getD (getD changes (windowNo w) []) (causeNo c) Never
 abbrev pub movedTo : Window → Next → Window
 movedTo w Never = w
 movedTo w Refuse = w
-movedTo w (To v) = v
+movedTo w ToOff = Off
+movedTo w ToD = D
+movedTo w ToN = N
 
 abbrev pub movedBy : Window → Cause → Window
 movedBy w c = movedTo w (next w c)
@@ -45,7 +47,9 @@ movedBy w c = movedTo w (next w c)
 abbrev pub isRefuse : Next → Bool
 isRefuse Never = false
 isRefuse Refuse = true
-isRefuse (To v) = false
+isRefuse ToOff = false
+isRefuse ToD = false
+isRefuse ToN = false
 
 abbrev pub refusedBy : Window → Cause → Bool
 refusedBy w c = isRefuse (next w c)

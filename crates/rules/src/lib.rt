@@ -45,7 +45,9 @@ pub enum Cause {
 pub enum Next {
     Never,
     Refuse,
-    To(Window),
+    ToOff,
+    ToD,
+    ToN,
 }
 
 // Why a rule refuses.

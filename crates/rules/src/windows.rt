@@ -7,11 +7,11 @@ use crate::Next;
 use record::Window;
 use record::windows::window_no;
 
-const TO_OFF: Next = Next::To(Window::Off);
+const TO_OFF: Next = Next::ToOff;
 
-const TO_D: Next = Next::To(Window::D);
+const TO_D: Next = Next::ToD;
 
-const TO_N: Next = Next::To(Window::N);
+const TO_N: Next = Next::ToN;
 
 const REFUSE: Next = Next::Refuse;
 
@@ -54,7 +54,9 @@ pub fn moved(w: Window, c: Cause) -> Window
     match n {
         Next::Never => w,
         Next::Refuse => w,
-        Next::To(v) => v,
+        Next::ToOff => Window::Off,
+        Next::ToD => Window::D,
+        Next::ToN => Window::N,
     }
 }
 
@@ -65,6 +67,8 @@ pub fn refuses(w: Window, c: Cause) -> bool
     match n {
         Next::Never => false,
         Next::Refuse => true,
-        Next::To(_) => false,
+        Next::ToOff => false,
+        Next::ToD => false,
+        Next::ToN => false,
     }
 }

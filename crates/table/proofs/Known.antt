@@ -65,11 +65,14 @@ legal-at p k [] h l = absurd (not-suc-le-zero l)
 legal-at p zero (a ∷ rs) h l = both (legalRow a) _ (both (legalAfter p a) _ h .0) .0
 legal-at p (suc k) (a ∷ rs) h l = legal-at (idOf (recordOf a)) k rs (both (legalAfter p a) _ h .1) (omega arith)
 
--- each slot of a legal table holds the words of a legal record
-pub slot-known : (ws : List ℕ) → Legal ws → (k : ℕ) → k < count ws → Row (row ws k)
-slot-known ws l k h =
+-- each slot of a legal table holds a legal row: the words of a legal record
+pub slot-legal : (ws : List ℕ) → Legal ws → (k : ℕ) → k < count ws → legalRow (row ws k) ≡ true
+slot-legal ws l k h =
     let e : getD (rows ws) k [] ≡ row ws k = rows-at ws 0 k (count ws) h ∙ ap (row ws) (zero-add k) in
-    row-of (row ws k) (rw e at (legal-at 0 k (rows ws) (rows-known ws l) (omega (arith, length-rows ws 0 (count ws)))))
+    rw e at (legal-at 0 k (rows ws) (rows-known ws l) (omega (arith, length-rows ws 0 (count ws))))
+
+pub slot-known : (ws : List ℕ) → Legal ws → (k : ℕ) → k < count ws → Row (row ws k)
+slot-known ws l k h = row-of (row ws k) (slot-legal ws l k h)
 
 -- ---- legality of rows is that of their records
 

@@ -5,3 +5,5 @@ pub mod Known
 pub mod Turns
 pub mod Written
 pub mod Past
+pub mod LegalWords
+pub mod Staying

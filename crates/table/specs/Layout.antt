@@ -18,6 +18,13 @@ use Rattle.record.specs.Events.{bit, bitsOf, eventsIn}
 abbrev pub rowWords : ℕ
 rowWords = 24
 
+-- where the words begin that items other than Set Features 13h change, and where among them the notes
+abbrev pub windowWord : ℕ
+windowWord = 17
+
+abbrev pub notesWord : ℕ
+notesWord = 22
+
 -- a record as its words
 abbrev pub fieldsOf : Record → List ℕ
 fieldsOf r =
@@ -34,11 +41,11 @@ fieldsOf r =
     ∷ r .attributes .«time_maximum»
     ∷ r .attributes .«minimum_high»
     ∷ r .attributes .«minimum_low»
-    ∷ windowNo (r .state .window)
     ∷ bitsOf (r .state .config .enabled)
     ∷ r .state .config .thresholds .reads
     ∷ r .state .config .thresholds .writes
     ∷ r .state .config .thresholds .time
+    ∷ windowNo (r .state .window)
     ∷ r .state .reads
     ∷ r .state .writes
     ∷ r .state .time
@@ -74,10 +81,10 @@ attributesAt ws =
 abbrev pub stateAt : List ℕ → State
 stateAt ws =
     stateOf
-    (windowIn (getD ws 13 0))
+    (windowIn (getD ws 17 0))
     (record {
-      enabled = eventsIn (getD ws 14 0);
-      thresholds = record { reads = getD ws 15 0; writes = getD ws 16 0; time = getD ws 17 0 };
+      enabled = eventsIn (getD ws 13 0);
+      thresholds = record { reads = getD ws 14 0; writes = getD ws 15 0; time = getD ws 16 0 };
     })
     (getD ws 18 0) (getD ws 19 0) (getD ws 20 0) (getD ws 21 0)
 

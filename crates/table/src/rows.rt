@@ -1,9 +1,11 @@
 // One set as a row of words, and back.
 ghost use mathlib.Core.Path.{_≡_};
-ghost use lib.ListN.{length};
+ghost use Rattle.octets.specs.Choice.{if_then_else_};
 ghost use Rattle.record.specs.Window.{windowNo};
+ghost use Rattle.record.specs.Legal.{inRange};
 ghost use Rattle.table.specs.Layout.{fieldsOf, wordsOf, windowIn, attributesAt, stateAt, notesAt, recordOf};
-ghost use Rattle.table.specs.Table.{idOf, sameWords, legalRow, legalAfter};
+ghost use Rattle.table.specs.Table.{idOf, legalAfter};
+ghost use Rattle.table.specs.LegalWords.{capacitiesLegal, staticsLegal, withinBits, changingLegal, notesLegal};
 use record::Attributes;
 use record::Capacity;
 use record::Config;
@@ -14,7 +16,9 @@ use record::SetId;
 use record::State;
 use record::Thresholds;
 use record::Window;
-use record::legal::record_legal;
+use record::legal::DAY_MS;
+use record::legal::NUMBER_MAXIMUM;
+use record::legal::TYPICAL_MAXIMUM;
 use record::notices::bit_of;
 use record::notices::bits_of;
 use record::notices::events_in;
@@ -24,7 +28,12 @@ pub const HEADER: usize = 1;
 
 pub const ROW: usize = 24;
 
-// The place of the listed mark in a row.
+// Places in a row: of the window, after which come all words that items other than Set Features 13h change; of the events, with
+// which the notes begin; and of the listed mark.
+pub const WINDOW: usize = 17;
+
+pub const NOTES: usize = 22;
+
 pub const LISTED: usize = 23;
 
 fn number_of(w: Window) -> u64
@@ -58,11 +67,11 @@ fn fields_of(r: Record) -> [u64; ROW]
         r.attributes.time_maximum,
         r.attributes.minimum_high,
         r.attributes.minimum_low,
-        window,
         enev,
         r.state.config.thresholds.reads,
         r.state.config.thresholds.writes,
         r.state.config.thresholds.time,
+        window,
         r.state.reads,
         r.state.writes,
         r.state.time,
@@ -111,12 +120,12 @@ fn attributes_at(a: [u64; ROW]) -> Attributes
 fn state_at(a: [u64; ROW]) -> State
     ensures { λ r. ⌜ r ≡ stateAt a ⌝ }
 {
-    let window = window_in(a[13]);
-    let enabled = events_in(a[14]);
+    let window = window_in(a[17]);
+    let enabled = events_in(a[13]);
     let thresholds = Thresholds {
-        reads: a[15],
-        writes: a[16],
-        time: a[17],
+        reads: a[14],
+        writes: a[15],
+        time: a[16],
     };
     let config = Config {
         enabled: enabled,
@@ -161,45 +170,94 @@ pub fn words_of(r: Record) -> [u64; ROW]
     fields_of(r)
 }
 
-// To the end even where two words differ: a loop with no early exit is unrolled, and words copied unchanged cost nothing.
-fn same_words(a: &[u64], b: &[u64]) -> bool
-    requires { ⌜ length (now a) ≡ length (now b) ⌝ }
-    ensures { λ r. ⌜ r ≡ sameWords (now (a .entry)) (now (b .entry)) ⌝ }
+// ---- legality, straight on the words: `legal-words` ties it to that of the record
+
+const FOUR_BYTES_MAXIMUM: u64 = 4294967295;
+
+fn in_range(most: u64, x: u64) -> bool
+    ensures { λ r. ⌜ r ≡ inRange most x ⌝ }
 {
-    let mut same = true;
-    let mut i = 0;
-    while i < a.len() {
-        same = same & (a[i] == b[i]);
-        i += 1;
-    }
-    same
+    (1 <= x) & (x <= most)
 }
 
-pub fn legal_row(a: [u64; ROW]) -> bool
-    ensures { λ r. ⌜ r ≡ legalRow a ⌝ }
+fn capacities_legal(a: [u64; ROW]) -> bool
+    ensures { λ r. ⌜ r ≡ capacitiesLegal a ⌝ }
 {
-    let r = record_of(a);
-    let b = words_of(r);
-    if same_words(&a, &b) {
-        record_legal(r)
+    if a[7] == a[5] {
+        a[6] <= a[4]
     } else {
-        false
+        a[7] < a[5]
     }
 }
 
-pub fn id_in(a: [u64; ROW]) -> u64
-    ensures { λ r. ⌜ r ≡ idOf (recordOf a) ⌝ }
+fn statics_legal(a: [u64; ROW]) -> bool
+    ensures { λ r. ⌜ r ≡ staticsLegal a ⌝ }
 {
-    a[0] % 65536
+    let id = in_range(NUMBER_MAXIMUM, a[0]);
+    let group = in_range(NUMBER_MAXIMUM, a[1]);
+    let random = a[2] <= FOUR_BYTES_MAXIMUM;
+    let optimal = a[3] <= FOUR_BYTES_MAXIMUM;
+    let capacities = capacities_legal(a);
+    let reads = in_range(TYPICAL_MAXIMUM, a[8]);
+    let writes = in_range(TYPICAL_MAXIMUM, a[9]);
+    let time = in_range(DAY_MS, a[10]);
+    let high = in_range(DAY_MS, a[11]);
+    let low = in_range(DAY_MS, a[12]);
+    let sizes = id & group & random & optimal & capacities;
+    sizes & reads & writes & time & high & low & (a[12] <= a[11])
+}
+
+fn within_bits(x: u64) -> bool
+    ensures { λ r. ⌜ r ≡ withinBits x ⌝ }
+{
+    let e = events_in(x);
+    x == bits_of(e)
+}
+
+// The limit where it holds, or the one elsewhere, so that the test against it needs no branch.
+fn limit_in(here: bool, most: u64, elsewhere: u64) -> u64
+    ensures { λ r. ⌜ r ≡ (if here then most else elsewhere) ⌝ }
+{
+    if here { most } else { elsewhere }
+}
+
+fn changing_legal(a: [u64; ROW]) -> bool
+    ensures { λ r. ⌜ r ≡ changingLegal a ⌝ }
+{
+    let d = a[17] == 1;
+    let n = a[17] == 2;
+    let enev = within_bits(a[13]);
+    let reads = limit_in(d, a[8], 0);
+    let writes = limit_in(d, a[9], 0);
+    let time = limit_in(d, a[10], 1);
+    let n_time = limit_in(n, a[11], 0);
+    enev & (a[17] <= 2) & (a[18] <= reads) & (a[19] <= writes) & (a[20] < time) & (a[21] <= n_time)
+}
+
+fn notes_legal(a: [u64; ROW]) -> bool
+    ensures { λ r. ⌜ r ≡ notesLegal a ⌝ }
+{
+    let events = within_bits(a[22]);
+    let most = limit_in(a[22] == 0, 0, 1);
+    events & (a[23] <= most)
 }
 
 // Whether a row is legal and its identifier is above the one before.
 pub fn follows(before: u64, a: [u64; ROW]) -> bool
     ensures { λ r. ⌜ r ≡ legalAfter before a ⌝ }
 {
-    if legal_row(a) {
-        before < id_in(a)
-    } else {
-        false
+    if before < a[0] {
+        if statics_legal(a) {
+            let changing = changing_legal(a);
+            let notes = notes_legal(a);
+            return changing & notes;
+        }
     }
+    false
+}
+
+pub fn id_in(a: [u64; ROW]) -> u64
+    ensures { λ r. ⌜ r ≡ idOf (recordOf a) ⌝ }
+{
+    a[0] % 65536
 }

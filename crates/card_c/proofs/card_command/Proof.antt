@@ -12,4 +12,4 @@ card-command-spec =
     (λ c. search needs)
     (λ c. search needs)
     (λ c. search needs)
-    (λ c. command-at _ _ _ _ _ _ _ _ (c .before .before .before .before .before .before .before .before .answer-lent .ensures) (c .before .before .put-reply .ensures)))
+    (λ c. command-at _ _ _ _ _ _ _ _ (c .before .before .before .before .before .before .before .before .command .ensures) (c .before .before .put-reply .ensures)))

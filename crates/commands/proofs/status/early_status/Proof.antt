@@ -17,4 +17,4 @@ early-status-spec =
     (λ c. search needs)
     (λ c. search needs)
     (λ c κs. search needs)
-    (λ c. simp (c .first .ensures, c .before .before .before .before .part-wrong .ensures, c .before .before .before .before .before .selected-by .ensures, c .before .before .before .before .before .before .saves .ensures, c .before .before .before .before .before .before .before .chosen-by .ensures, c .before .before .before .before .before .before .before .before .is-get .ensures, c .before .before .before .before .before .before .before .before .before .is-set .ensures, c .before .before .before .before .before .before .before .before .before .before .is-identify .ensures, c .before .before .before .before .before .before .before .before .before .before .before .is-log .ensures)))
+    (λ c. simp (c .first .ensures, c .before .before .before .before .log-wrong .ensures, c .before .before .before .before .before .selected-by .ensures, c .before .before .before .before .before .before .saves .ensures, c .before .before .before .before .before .before .before .chosen-by .ensures, c .before .before .before .before .before .before .before .before .is-get .ensures, c .before .before .before .before .before .before .before .before .before .is-set .ensures, c .before .before .before .before .before .before .before .before .before .before .is-identify .ensures, c .before .before .before .before .before .before .before .before .before .before .before .is-log .ensures)))

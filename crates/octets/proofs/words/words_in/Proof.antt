@@ -12,14 +12,14 @@ use Rattle.octets.proofs.words.words_in.Statement.{statement}
 use Rattle.octets.proofs.words.words_in.Tie as tie
 
 abbrev Inv-loop : tie.InvT-loop
-Inv-loop bytes words₀ at₀ i₀ words at i =
+Inv-loop bytes «from» words₀ at₀ i₀ words at i =
     (i ≤ length words₀)
-    × (at ≡ i * wordSize)
+    × (at ≡ «from» + i * wordSize)
     × (length words ≡ length words₀)
-    × (sets words i (wordsFrom bytes at (length words₀ - i)) ≡ sets words₀ 0 (wordsFrom bytes 0 (length words₀)))
+    × (sets words i (wordsFrom bytes at (length words₀ - i)) ≡ sets words₀ 0 (wordsFrom bytes «from» (length words₀)))
 
 abbrev μ-loop : tie.MeasureT-loop
-μ-loop bytes words₀ at₀ i₀ words at i = length words₀ - i
+μ-loop bytes «from» words₀ at₀ i₀ words at i = length words₀ - i
 
 pub words-in-spec : {M : Type 1} → statement M
 words-in-spec =
@@ -48,4 +48,4 @@ words-in-spec =
     let s = c .before .before .before .before in
     sym (in-end (l .words) (s .args .bytes .now) (l .at) (l .i) (length (s .args .words .now)) (search needs))
     ∙ l .inv .3
-    ∙ sets-whole _ (s .args .words .now) (length-words (s .args .bytes .now) 0 (length (s .args .words .now)))))
+    ∙ sets-whole _ (s .args .words .now) (length-words (s .args .bytes .now) (s .args .«from») (length (s .args .words .now)))))

@@ -10,14 +10,14 @@ use Rattle.octets.proofs.words.words_out.Statement.{statement}
 use Rattle.octets.proofs.words.words_out.Tie as tie
 
 abbrev Inv-loop : tie.InvT-loop
-Inv-loop words bytes₀ at₀ i₀ bytes at i =
+Inv-loop words bytes₀ «from» at₀ i₀ bytes at i =
     (i ≤ length words)
-    × (at ≡ i * wordSize)
+    × (at ≡ «from» + i * wordSize)
     × (length bytes ≡ length bytes₀)
-    × (putWords bytes at (drop i words) ≡ putWords bytes₀ 0 words)
+    × (putWords bytes at (drop i words) ≡ putWords bytes₀ «from» words)
 
 abbrev μ-loop : tie.MeasureT-loop
-μ-loop words bytes₀ at₀ i₀ bytes at i = length words - i
+μ-loop words bytes₀ «from» at₀ i₀ bytes at i = length words - i
 
 pub words-out-spec : {M : Type 1} → statement M
 words-out-spec =

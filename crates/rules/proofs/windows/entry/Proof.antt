@@ -11,5 +11,4 @@ entry-spec =
     (λ c. search needs)
     (λ c. search needs)
     (λ c. search needs)
-    (λ c. search needs)
     (λ c. simp (c .before .cause-no .ensures .0, c .before .before .window-no .ensures .0)))

@@ -1,0 +1,117 @@
+// What a command does and answers, on the table where it lies.
+ghost use mathlib.Core.Path.{_≡_};
+ghost use mathlib.Core.Bool.{true};
+ghost use Prim.Native.Nat.{_+_, _/_, _≤_};
+ghost use lib.ListN.{length};
+ghost use Rattle.octets.specs.Words.{wordSize};
+ghost use Rattle.table.specs.Table.{rowStart};
+ghost use Rattle.commands.specs.declared.Kind.{Kind};
+ghost use Rattle.commands.specs.Commands.{kindOf};
+ghost use Rattle.region.specs.Region.{tableIn};
+ghost use Rattle.steps.specs.Items.{Item, The, Nobody};
+ghost use Rattle.steps.specs.Commanded.{isNamed, namedBy, named, viewed, aggregateOf, setListOf};
+ghost use Rattle.steps.specs.Meanings.{meaning};
+ghost use Rattle.steps.specs.Words.{Answered};
+ghost use Rattle.card_c.specs.InPlace.{AnswerAtC, OnSetAtC};
+use crate::views::aggregate_of;
+use crate::views::set_list_of;
+use card::answering::after_command;
+use card::answering::hand_by;
+use card::answering::is_named;
+use card::answering::named_by;
+use card::answering::refuse;
+use card::answering::status_on;
+use commands::Command;
+use commands::Kind;
+use commands::asked_by;
+use commands::command_in;
+use commands::is_log;
+use commands::kind_of;
+use commands::needs_out;
+use commands::offset_of;
+use commands::status::unknown_status;
+use commands::status::view_status;
+use record::SetId;
+use record::Slot;
+use replies::Reply;
+use table::Entry;
+
+// A command that names a set, which was found.
+fn answer_set(
+    region: &mut [u8],
+    slot: Slot,
+    k: Kind,
+    c: Command,
+    given: &[u8],
+    answer: &mut [u8],
+) -> Reply
+    requires { ⌜ (k ≡ kindOf c) × (isNamed k ≡ true) × (rowStart (slot .0 + 1) ≤ length (now region) / wordSize) ⌝ }
+    ensures { λ r. ⌜ OnSetAtC (now (region .entry)) (slot .0) k c (now (given .entry)) (now (answer .entry)) r (now (region .exit)) (now (answer .exit)) ⌝ }
+{
+    let r = region::load(region, slot);
+    let status = status_on(k, c, given.len(), answer.len(), r);
+    if status == 0 {
+        region::store(region, slot, after_command(r, k, c, given));
+        hand_by(k, c, r, answer)
+    } else {
+        refuse(status)
+    }
+}
+
+// A command that names a set.
+fn answer_named(region: &mut [u8], k: Kind, c: Command, given: &[u8], answer: &mut [u8]) -> Reply
+    requires { ⌜ (k ≡ kindOf c) × (isNamed k ≡ true) ⌝ }
+    ensures { λ r. ⌜ ((i : Item) → meaning i ≡ The (namedBy k c) (named k c (now (given .entry)) (length (now (answer .entry)))) → AnswerAtC (now (region .entry)) i (now (answer .entry)) r (now (region .exit)) (now (answer .exit))) ⌝ }
+{
+    let id = named_by(k, c);
+    let e = region::enter(region, SetId(id));
+    match e {
+        Entry::Bad => refuse(0x07C3),
+        Entry::Unknown => refuse(unknown_status(c)),
+        Entry::Here(slot) => answer_set(region, slot, k, c, given, answer),
+    }
+}
+
+// Page 0Bh. Reading changes nothing.
+fn answer_aggregate(region: &[u8], c: Command, given: usize, answer: &mut [u8]) -> Reply
+    requires { ⌜ kindOf c ≡ Kind.ReadAggregate ⌝ }
+    ensures { λ r. ⌜ ((i : Item) → meaning i ≡ Nobody (viewed Kind.ReadAggregate c given (length (now (answer .entry))) (aggregateOf c)) → Answered (tableIn (now (region .entry))) i (now (answer .entry)) r (tableIn (now (region .entry))) (now (answer .exit))) ⌝ }
+{
+    if region::legal(region) {
+        let status = view_status(Kind::ReadAggregate, c, given, answer.len());
+        let page = aggregate_of(region);
+        let from = offset_of(c) as usize;
+        let n = needs_out(Kind::ReadAggregate, c) as usize;
+        replies::hand_out(status, 0, &page, from, n, answer)
+    } else {
+        refuse(0x07C3)
+    }
+}
+
+// Identify 04h.
+fn answer_identify(region: &[u8], c: Command, given: usize, answer: &mut [u8]) -> Reply
+    ensures { λ r. ⌜ ((i : Item) → meaning i ≡ Nobody (viewed Kind.Identify c given (length (now (answer .entry))) (setListOf c)) → Answered (tableIn (now (region .entry))) i (now (answer .entry)) r (tableIn (now (region .entry))) (now (answer .exit))) ⌝ }
+{
+    if region::legal(region) {
+        let status = view_status(Kind::Identify, c, given, answer.len());
+        let page = set_list_of(region, asked_by(c));
+        replies::hand_out(status, 0, &page, 0, 4096, answer)
+    } else {
+        refuse(0x07C3)
+    }
+}
+
+// Any command: its 64 bytes, its data in, and the buffer for its answer.
+pub(crate) fn command(region: &mut [u8], bytes: &[u8], given: &[u8], answer: &mut [u8]) -> Reply
+    ensures { λ r. ⌜ AnswerAtC (now (region .entry)) (Item.command (now (bytes .entry)) (now (given .entry)) (length (now (answer .entry)))) (now (answer .entry)) r (now (region .exit)) (now (answer .exit)) ⌝ }
+{
+    let c = command_in(bytes);
+    let k = kind_of(c);
+    if is_named(k) {
+        answer_named(region, k, c, given, answer)
+    } else if is_log(c) {
+        answer_aggregate(region, c, given.len(), answer)
+    } else {
+        answer_identify(region, c, given.len(), answer)
+    }
+}

@@ -1,0 +1,122 @@
+// Media events and ticks, each on the rows that it changes, where they lie.
+ghost use mathlib.Core.Path.{_≡_};
+ghost use mathlib.Core.List.{map};
+ghost use Rattle.rules.specs.Rules.{readEvent, writeEvent, excursionEvent, tick};
+ghost use Rattle.table.specs.Table.{count, recordsOf, Legal, written};
+ghost use Rattle.region.specs.Region.{tableIn, tableOut, LegalAt};
+ghost use Rattle.steps.specs.Items.{Item};
+ghost use Rattle.steps.specs.Media.{mediaRule, itemOf, tickOne};
+ghost use Rattle.card_c.specs.Entries.{EventAtC};
+ghost use Rattle.card_c.specs.InPlace.{ruledAt};
+use card::media::DAY_MS;
+use record::SetId;
+use record::Slot;
+use record::notices::is_silent;
+use record::notices::settle;
+use region::load;
+use region::store_moved;
+use region::store_silent;
+use rules::excursion_event;
+use rules::read_event;
+use rules::tick_event;
+use rules::write_event;
+use steps::Media;
+use table::Entry;
+
+// Each event loads and stores by itself: a record that is made in one place and stored in another is copied on the way.
+
+fn reads_at(region: &mut [u8], slot: Slot, k: u16)
+    requires { ⌜ LegalAt (now region) (slot .0) ⌝ }
+    ensures { λ _. ⌜ now (region .exit) ≡ ruledAt (readEvent k) (now (region .entry)) (slot .0) ⌝ }
+{
+    let r = load(region, slot);
+    let a = r.attributes;
+    let s = r.state;
+    store_moved(region, slot, settle(r, read_event(a, s, k)));
+}
+
+fn writes_at(region: &mut [u8], slot: Slot, k: u16)
+    requires { ⌜ LegalAt (now region) (slot .0) ⌝ }
+    ensures { λ _. ⌜ now (region .exit) ≡ ruledAt (writeEvent k) (now (region .entry)) (slot .0) ⌝ }
+{
+    let r = load(region, slot);
+    let a = r.attributes;
+    let s = r.state;
+    store_moved(region, slot, settle(r, write_event(a, s, k)));
+}
+
+fn excursion_at(region: &mut [u8], slot: Slot)
+    requires { ⌜ LegalAt (now region) (slot .0) ⌝ }
+    ensures { λ _. ⌜ now (region .exit) ≡ ruledAt (λ a s. excursionEvent s) (now (region .entry)) (slot .0) ⌝ }
+{
+    let r = load(region, slot);
+    let s = r.state;
+    store_moved(region, slot, settle(r, excursion_event(s)));
+}
+
+fn event_at(region: &mut [u8], slot: Slot, m: Media)
+    requires { ⌜ LegalAt (now region) (slot .0) ⌝ }
+    ensures { λ _. ⌜ now (region .exit) ≡ ruledAt (mediaRule m) (now (region .entry)) (slot .0) ⌝ }
+{
+    match m {
+        Media::Reads(k) => reads_at(region, slot, k),
+        Media::Writes(k) => writes_at(region, slot, k),
+        Media::Excursion => excursion_at(region, slot),
+    }
+}
+
+pub(crate) fn event(region: &mut [u8], id: u16, m: Media) -> u16
+    ensures { λ x. ⌜ EventAtC (now (region .entry)) (itemOf id m) (now (region .exit)) x ⌝ }
+{
+    let e = region::enter(region, SetId(id));
+    match e {
+        Entry::Bad => 0x07C3,
+        Entry::Unknown => 0x07C0,
+        Entry::Here(slot) => {
+            event_at(region, slot, m);
+            0
+        }
+    }
+}
+
+// Most ticks of a set note nothing, and leave its notes' words alone.
+fn tick_at(region: &mut [u8], slot: Slot, t: u32)
+    requires { ⌜ LegalAt (now region) (slot .0) ⌝ }
+    ensures { λ _. ⌜ now (region .exit) ≡ ruledAt (tick t) (now (region .entry)) (slot .0) ⌝ }
+{
+    let r = load(region, slot);
+    let a = r.attributes;
+    let s = r.state;
+    let e = tick_event(a, s, t);
+    if is_silent(e) {
+        store_silent(region, slot, settle(r, e));
+    } else {
+        store_moved(region, slot, settle(r, e));
+    }
+}
+
+fn tick_all(region: &mut [u8], n: usize, t: u32)
+    requires { ⌜ (n ≡ count (tableIn (now region))) × Legal (tableIn (now region)) ⌝ }
+    ensures { λ _. ⌜ now (region .exit) ≡ tableOut (now (region .entry)) (written (tableIn (now (region .entry))) (map (tickOne t) (recordsOf (tableIn (now (region .entry)))))) ⌝ }
+{
+    let mut i = 0;
+    while i < n {
+        tick_at(region, Slot(i), t);
+        i += 1;
+    }
+}
+
+pub(crate) fn ticks(region: &mut [u8], t: u32) -> u16
+    ensures { λ x. ⌜ EventAtC (now (region .entry)) (Item.tick t) (now (region .exit)) x ⌝ }
+{
+    if region::legal(region) {
+        if DAY_MS < t {
+            return 0x07C5;
+        }
+        let n = region::count_of(region);
+        tick_all(region, n, t);
+        0
+    } else {
+        0x07C3
+    }
+}

@@ -1,0 +1,66 @@
+-- The words of a region: one of them, a row of them, and a row put back.
+use mathlib.Core.Path.{_≡_, refl, sym, ap, _∙_}
+use mathlib.Core.List.{List}
+use Prim.Native.Nat.{ℕ, _+_, _*_, _-_, _/_, _≤_, _<_}
+use native.Mathlib.Omega.{arith}
+use lib.ListN.{length, getD, take, drop, drop-of-length-le}
+use Rattle.octets.specs.Octets.{numberOf, part, AllBytes}
+use Rattle.octets.specs.Words.{wordSize, wordsFrom, putWords}
+use Rattle.octets.proofs.Passed.{length-words, own-words}
+use Rattle.octets.proofs.InPlace.{word-of, first-words, later-words, rest-words, put-within, put-part}
+use Rattle.table.specs.Layout.{rowWords}
+use Rattle.table.specs.Table.{rowStart, row, put}
+use Rattle.table.proofs.Slots.{length-row}
+use Rattle.region.specs.Region.{tableIn, tableOut}
+
+-- ---- reading
+
+pub row-in : (b : List ℕ) (slot from : ℕ) → rowStart (slot + 1) ≤ length b / wordSize → from ≡ rowStart slot * wordSize
+    → wordsFrom b from rowWords ≡ row (tableIn b) slot
+row-in b slot from h e =
+    let q : 0 + rowStart slot * wordSize ≡ from = omega (arith, e) in
+    sym (later-words b 0 (length b / wordSize) (rowStart slot) rowWords (omega arith) ∙ ap (λ (x : ℕ). wordsFrom b x rowWords) q)
+
+pub word-in : (b : List ℕ) (k from : ℕ) → k < length b / wordSize → from ≡ k * wordSize → numberOf (part b from wordSize) ≡ getD (tableIn b) k 0
+word-in b k from h e =
+    let q : 0 + k * wordSize ≡ from = omega (arith, e) in
+    sym (word-of b 0 (length b / wordSize) k h ∙ ap (λ (x : ℕ). numberOf (part b x wordSize)) q)
+
+pub length-in : (b : List ℕ) → length (tableIn b) ≡ length b / wordSize
+length-in b = length-words b 0 (length b / wordSize)
+
+-- ---- writing
+
+pub row-out : (b xs : List ℕ) (slot from : ℕ) → AllBytes b → length xs ≡ rowWords → rowStart (slot + 1) ≤ length b / wordSize → from ≡ rowStart slot * wordSize
+    → putWords b from xs ≡ tableOut b (put (tableIn b) slot xs)
+row-out b xs slot from each n h e =
+    let q : 0 + rowStart slot * wordSize ≡ from = omega (arith, e) in
+    sym (put-within xs b 0 (length b / wordSize) (rowStart slot) each (omega (arith, n)) (omega arith) ∙ ap (λ (x : ℕ). putWords b x xs) q)
+
+-- the same where the row holds its words before one place and from another on already
+pub part-out :
+    (b xs : List ℕ) (slot from to at : ℕ) → AllBytes b → length xs ≡ rowWords → rowStart (slot + 1) ≤ length b / wordSize → from ≤ to → to ≤ rowWords
+    → take from xs ≡ take from (row (tableIn b) slot) → drop to xs ≡ drop to (row (tableIn b) slot) → at ≡ (rowStart slot + from) * wordSize
+    → putWords b at (part xs from (to - from)) ≡ tableOut b (put (tableIn b) slot xs)
+part-out b xs slot from to at each n h order end before after e =
+    let start = rowStart slot * wordSize in
+    let own : row (tableIn b) slot ≡ wordsFrom b start rowWords = sym (row-in b slot start h refl) in
+    let q : start + from * wordSize ≡ at = omega (arith, e) in
+    ap (λ (k : ℕ). putWords b k (part xs from (to - from))) (sym q)
+    ∙ sym
+    (put-part xs b start rowWords from to each n (omega arith) order end
+    (before ∙ ap (take from) own ∙ first-words b start rowWords from (omega arith))
+    (after ∙ ap (drop to) own ∙ rest-words b start rowWords to))
+    ∙ row-out b xs slot start each n h refl
+
+-- past its last word a row has none
+pub row-ends : (b xs : List ℕ) (slot : ℕ) → length xs ≡ rowWords → rowStart (slot + 1) ≤ length b / wordSize → drop rowWords xs ≡ drop rowWords (row (tableIn b) slot)
+row-ends b xs slot n h =
+    let w : length (row (tableIn b) slot) ≡ rowWords = length-row (tableIn b) slot (omega (arith, length-in b)) in
+    let x : length xs ≤ rowWords = omega arith in
+    let y : length (row (tableIn b) slot) ≤ rowWords = omega (arith, w) in
+    drop-of-length-le xs x ∙ sym (drop-of-length-le (row (tableIn b) slot) y)
+
+-- a region's own words, put back
+pub own-region : (b : List ℕ) → AllBytes b → tableOut b (tableIn b) ≡ b
+own-region b each = own-words (length b / wordSize) 0 b b each refl (omega arith)

@@ -1,0 +1,22 @@
+use mathlib.Core.Path.{sym, _∙_}
+use Prim.Native.Nat.{_/_}
+use borrow.Author.Needs.{needs}
+use lib.ListN.{length}
+use Rattle.octets.specs.Words.{wordSize}
+use Rattle.table.specs.Table.{count}
+use Rattle.table.proofs.Known.{sized-empty, some-extent}
+use Rattle.region.specs.Region.{tableIn}
+use Rattle.region.proofs.Words.{length-in}
+use Rattle.region.proofs.fits.Statement.{statement}
+use Rattle.region.proofs.fits.Tie as tie
+
+pub fits-spec : {M : Type 1} → statement M
+fits-spec =
+    tie.close
+    (tie.spec
+    (λ c. let b = c .before .before .args .bytes .now in sym (sized-empty (tableIn b) (length-in b ∙ c .if1 .taken)))
+    (λ c κs. search needs)
+    (λ c κs. search needs)
+    (λ c.
+    let b = c .before .before .before .before .args .bytes .now in
+    rw (c .extent .ensures, c .before .count-of .ensures, length-in b) (some-extent (count (tableIn b)) (length b / wordSize))))

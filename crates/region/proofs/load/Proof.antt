@@ -1,0 +1,11 @@
+use borrow.Author.Needs.{needs}
+use Rattle.region.proofs.load.Statement.{statement}
+use Rattle.region.proofs.load.Tie as tie
+
+pub load-spec : {M : Type 1} → statement M
+load-spec =
+    tie.close
+    (tie.spec
+    (λ c κs. search needs)
+    (λ c κs. search needs)
+    (λ c. simp (c .record-of .ensures, c .before .fetch .ensures)))

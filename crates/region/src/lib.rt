@@ -1,0 +1,211 @@
+// The card's table where it lies, in a region of bytes that C lends: legality, the search for a set, one slot loaded and stored.
+// Each promises of the region's words what the function of that name in `table` promises of a slice of words.
+ghost use mathlib.Core.Path.{_≡_};
+ghost use Prim.Native.Nat.{_+_, _*_, _/_, _<_, _≤_};
+ghost use mathlib.Core.List.{map};
+ghost use lib.ListN.{length, getD, replicate};
+ghost use lib.Seq.{sets};
+ghost use Rattle.record.specs.Legal.{maxSets};
+ghost use Rattle.octets.specs.Words.{wordSize};
+ghost use Rattle.table.specs.Table.{count, rowStart, row, rows, sized, legalRows, legalTable, Legal, idOf, recordsOf, findIn, enterIn, listedWord};
+ghost use Rattle.region.specs.Region.{tableIn, recordAt, withRecord, LegalAt, Moved, Silent};
+use octets::words::word_at;
+use octets::words::words_in;
+use octets::words::words_out;
+use record::Record;
+use record::SetId;
+use record::Slot;
+use record::legal::MAX_SETS;
+use table::Entry;
+use table::Found;
+use table::rows::HEADER;
+use table::rows::LISTED;
+use table::rows::NOTES;
+use table::rows::ROW;
+use table::rows::WINDOW;
+use table::rows::follows;
+use table::rows::id_in;
+use table::rows::record_of;
+use table::rows::words_of;
+
+// The row of a slot.
+fn fetch(bytes: &[u8], slot: usize) -> [u64; ROW]
+    requires { ⌜ rowStart (slot + 1) ≤ length (now bytes) / wordSize ⌝ }
+    ensures { λ r. ⌜ r ≡ row (tableIn (now (bytes .entry))) slot ⌝ }
+{
+    let mut a = [0u64; ROW];
+    words_in(bytes, 8 * HEADER + slot * (8 * ROW), &mut a);
+    a
+}
+
+pub fn load(bytes: &[u8], slot: Slot) -> Record
+    requires { ⌜ rowStart (slot .0 + 1) ≤ length (now bytes) / wordSize ⌝ }
+    ensures { λ r. ⌜ r ≡ recordAt (now (bytes .entry)) (slot .0) ⌝ }
+{
+    let i = slot.0;
+    record_of(fetch(bytes, i))
+}
+
+pub fn store(bytes: &mut [u8], slot: Slot, r: Record)
+    requires { ⌜ rowStart (slot .0 + 1) ≤ length (now bytes) / wordSize ⌝ }
+    ensures { λ _. ⌜ now (bytes .exit) ≡ withRecord (now (bytes .entry)) (slot .0) r ⌝ }
+{
+    let a = words_of(r);
+    let i = slot.0;
+    words_out(&a, bytes, 8 * HEADER + i * (8 * ROW));
+}
+
+// The same where the row's attributes and configuration stay: they are not written again.
+pub fn store_moved(bytes: &mut [u8], slot: Slot, r: Record)
+    requires { ⌜ LegalAt (now bytes) (slot .0) × Moved (recordAt (now bytes) (slot .0)) r ⌝ }
+    ensures { λ _. ⌜ now (bytes .exit) ≡ withRecord (now (bytes .entry)) (slot .0) r ⌝ }
+{
+    let a = words_of(r);
+    let i = slot.0;
+    words_out(
+        &a[WINDOW..ROW],
+        bytes,
+        8 * HEADER + i * (8 * ROW) + 8 * WINDOW,
+    );
+}
+
+// And where its notes stay too.
+pub fn store_silent(bytes: &mut [u8], slot: Slot, r: Record)
+    requires { ⌜ LegalAt (now bytes) (slot .0) × Silent (recordAt (now bytes) (slot .0)) r ⌝ }
+    ensures { λ _. ⌜ now (bytes .exit) ≡ withRecord (now (bytes .entry)) (slot .0) r ⌝ }
+{
+    let a = words_of(r);
+    let i = slot.0;
+    words_out(
+        &a[WINDOW..NOTES],
+        bytes,
+        8 * HEADER + i * (8 * ROW) + 8 * WINDOW,
+    );
+}
+
+// A word of the region.
+fn word_of(bytes: &[u8], k: usize) -> u64
+    requires { ⌜ k < length (now bytes) / wordSize ⌝ }
+    ensures { λ r. ⌜ r ≡ getD (tableIn (now (bytes .entry))) k 0 ⌝ }
+{
+    word_at(bytes, 8 * k)
+}
+
+fn size_of(n: u64) -> usize
+    ensures { λ r. ⌜ r ≡ n ⌝ }
+{
+    n as usize
+}
+
+// The number of sets.
+pub fn count_of(bytes: &[u8]) -> usize
+    requires { ⌜ 1 ≤ length (now bytes) / wordSize ⌝ }
+    ensures { λ r. ⌜ r ≡ count (tableIn (now (bytes .entry))) ⌝ }
+{
+    size_of(word_of(bytes, 0))
+}
+
+fn fits(bytes: &[u8]) -> bool
+    ensures { λ r. ⌜ r ≡ sized (tableIn (now (bytes .entry))) ⌝ }
+{
+    let room = bytes.len() / 8;
+    if room == 0 {
+        return false;
+    }
+    0 < table::extent(count_of(bytes), room)
+}
+
+fn rows_legal(bytes: &[u8], n: usize) -> bool
+    requires { ⌜ (n ≡ count (tableIn (now bytes))) × (rowStart n ≤ length (now bytes) / wordSize) ⌝ }
+    ensures { λ r. ⌜ r ≡ legalRows 0 (rows (tableIn (now (bytes .entry)))) ⌝ }
+{
+    let mut before = 0;
+    let mut i = 0;
+    while i < n {
+        let a = fetch(bytes, i);
+        if follows(before, a) {
+            before = id_in(a);
+        } else {
+            return false;
+        }
+        i += 1;
+    }
+    true
+}
+
+pub fn legal(bytes: &[u8]) -> bool
+    ensures { λ r. ⌜ r ≡ legalTable (tableIn (now (bytes .entry))) ⌝ }
+{
+    if fits(bytes) {
+        rows_legal(bytes, count_of(bytes))
+    } else {
+        false
+    }
+}
+
+// The identifier's word of a slot.
+fn id_at(bytes: &[u8], slot: usize) -> u64
+    requires { ⌜ rowStart (slot + 1) ≤ length (now bytes) / wordSize ⌝ }
+    ensures { λ r. ⌜ r ≡ getD (tableIn (now (bytes .entry))) (rowStart slot) 0 ⌝ }
+{
+    word_of(bytes, HEADER + slot * ROW)
+}
+
+pub fn find(bytes: &[u8], id: SetId) -> Found
+    requires { ⌜ Legal (tableIn (now bytes)) ⌝ }
+    ensures { λ r. ⌜ r ≡ findIn (tableIn (now (bytes .entry))) (id .0) ⌝ }
+{
+    let n = count_of(bytes);
+    let want = id.0 as u64;
+    let mut i = 0;
+    while i < n {
+        if id_at(bytes, i) == want {
+            return Found::At(Slot(i));
+        }
+        i += 1;
+    }
+    Found::Nothing
+}
+
+// The way into every item that names a set.
+pub fn enter(bytes: &[u8], id: SetId) -> Entry
+    ensures { λ r. ⌜ r ≡ enterIn (tableIn (now (bytes .entry))) (id .0) ⌝ }
+{
+    if legal(bytes) {
+        match find(bytes, id) {
+            Found::At(slot) => Entry::Here(slot),
+            Found::Nothing => Entry::Unknown,
+        }
+    } else {
+        Entry::Bad
+    }
+}
+
+// The listed marks, gathered from the last slot to the first: the first set's is the lowest bit.
+pub fn listed_word(bytes: &[u8]) -> u64
+    requires { ⌜ Legal (tableIn (now bytes)) ⌝ }
+    ensures { λ r. ⌜ r ≡ listedWord (recordsOf (tableIn (now (bytes .entry)))) ⌝ }
+{
+    let mut word: u64 = 0;
+    let mut i = count_of(bytes);
+    while 0 < i {
+        i -= 1;
+        word = word * 2 + word_of(bytes, HEADER + i * ROW + LISTED);
+    }
+    word
+}
+
+// The identifiers of all sets by slot, then zeros.
+pub fn identifiers(bytes: &[u8]) -> [u64; MAX_SETS]
+    requires { ⌜ Legal (tableIn (now bytes)) ⌝ }
+    ensures { λ r. ⌜ r ≡ sets (replicate maxSets 0) 0 (map idOf (recordsOf (tableIn (now (bytes .entry))))) ⌝ }
+{
+    let n = count_of(bytes);
+    let mut ids = [0u64; MAX_SETS];
+    let mut i = 0;
+    while i < n {
+        ids[i] = id_at(bytes, i);
+        i += 1;
+    }
+    ids
+}

@@ -1,0 +1,243 @@
+-- A row is legal exactly where its words are what docs/LAYOUT.md says. Which word holds how much of its field is said in one place,
+-- `held-words`: all else goes by the words of a record.
+use mathlib.Core.Path.{_≡_, refl, sym, ap, _∙_}
+use mathlib.Core.Bool.{Bool, true, false, not, _&&_, _||_, and-true, and-false}
+use mathlib.Core.List.{List, [], _∷_}
+use Prim.Native.Nat.{ℕ, zero, suc, _%_, _^_, _≤_, _<_}
+use native.Mathlib.Omega.{arith}
+use native.Mathlib.Nat.{mod-eq-of-lt}
+use borrow.Author.Tests.{leb-true, eqb-true, le-leb, le-ltb, lt-leb, eq-eqb, ne-eqb}
+use lib.Dec.{leb, ltb, eqb}
+use lib.ListN.{length, getD, drop-of-length-le}
+use lib.Seq.{drop-cons}
+use Rattle.octets.specs.Choice.{if_then_else_}
+use Rattle.octets.proofs.Tests.{and-left, and-right, both, together}
+use Rattle.record.specs.declared.Window.{Window}
+use Rattle.record.specs.declared.Window.the-variants.{Off, D, N}
+use Rattle.record.specs.declared.Events.{Events}
+use Rattle.record.specs.declared.Record.{Record}
+use Rattle.record.specs.Window.{byWindow, windowNo}
+use Rattle.record.specs.Events.{bit, bitsOf, eventsOf, eventsIn, someEvent}
+use Rattle.record.specs.Legal.{legalRecord}
+use Rattle.record.proofs.Bits.{events-back}
+use Rattle.table.specs.Layout.{rowWords, wordsOf, windowIn, recordOf}
+use Rattle.table.specs.Table.{idOf, sameWords, legalRow, legalAfter}
+use Rattle.table.specs.LegalWords.{word, staticsLegal, withinBits, zeroOutside, changingLegal, notesLegal, wordsLegal, LegalWords}
+use Rattle.table.proofs.Words.{same-self}
+use Rattle.table.proofs.Records.{row-of}
+
+-- ---- the words of a record are legal exactly where the record is
+
+bits-within : (e : Events) → withinBits (bitsOf e) ≡ true
+bits-within e = eq-eqb _ _ (ap bitsOf (sym (events-back e)))
+
+changing-words :
+    (w : Window) (b : Bool) (r o t m reads writes time need : ℕ) → b ≡ true
+    → b && leb (windowNo w) 2
+    && zeroOutside (eqb (windowNo w) 1) (leb r reads) r
+    && zeroOutside (eqb (windowNo w) 1) (leb o writes) o
+    && zeroOutside (eqb (windowNo w) 1) (ltb t time) t
+    && zeroOutside (eqb (windowNo w) 2) (leb m need) m
+    ≡ byWindow w
+    (eqb r 0 && eqb o 0 && eqb t 0 && eqb m 0)
+    (leb r reads && leb o writes && ltb t time && eqb m 0)
+    (eqb r 0 && eqb o 0 && eqb t 0 && leb m need)
+changing-words Off b r o t m reads writes time need h = rw h
+changing-words D b r o t m reads writes time need h = rw h
+changing-words N b r o t m reads writes time need h = rw h
+
+some-of : (i o t x y : Bool) → not (eqb (bitsOf (eventsOf i o t x y)) 0) ≡ someEvent (eventsOf i o t x y)
+some-of true o t x y = rw (ne-eqb (bitsOf (eventsOf true o t x y)) 0 (λ z. omega arith))
+some-of false true t x y = rw (ne-eqb (bitsOf (eventsOf false true t x y)) 0 (λ z. omega arith))
+some-of false false true x y = rw (ne-eqb (bitsOf (eventsOf false false true x y)) 0 (λ z. omega arith))
+some-of false false false true y = rw (ne-eqb (bitsOf (eventsOf false false false true y)) 0 (λ z. omega arith))
+some-of false false false false true = refl
+some-of false false false false false = refl
+
+some-bits : (e : Events) → not (eqb (bitsOf e) 0) ≡ someEvent e
+some-bits e = some-of (e .reads) (e .writes) (e .time) (e .exceeded) (e .excursion)
+
+mark-words : (listed b : Bool) → eqb (bit listed) 0 || (eqb (bit listed) 1 && b) ≡ not listed || b
+mark-words true b = refl
+mark-words false b = refl
+
+words-of-record : (r : Record) → wordsLegal (wordsOf r) ≡ legalRecord r
+unfolding wordsOf
+words-of-record r =
+    let a = r .attributes in
+    let s = r .state in
+    rw (
+      changing-words (s .window) _ (s .reads) (s .writes) (s .time) (s .«n_time») _ _ _ _ (bits-within (s .config .enabled)),
+      bits-within (r .notes .events),
+      some-bits (r .notes .events),
+      mark-words (r .notes .listed) (someEvent (r .notes .events)),
+    )
+
+-- ---- and a row whose words are legal is the words of its record
+
+-- each word is no more than its field holds
+record Statics (a : List ℕ) : Type 0 where
+  id : word a 0 ≤ 65535
+  group : word a 1 ≤ 65535
+  random : word a 2 ≤ 4294967295
+  optimal : word a 3 ≤ 4294967295
+
+statics : (a : List ℕ) → staticsLegal a ≡ true → Statics a
+statics a h =
+    record {
+      id = search (and-left, and-right, leb-true) depth 16;
+      group = search (and-left, and-right, leb-true) depth 16;
+      random = search (and-left, and-right, leb-true) depth 16;
+      optimal = search (and-left, and-right, leb-true) depth 16;
+    }
+
+record Changing (a : List ℕ) : Type 0 where
+  enev : withinBits (word a 13) ≡ true
+  window : word a 17 ≤ 2
+
+changing : (a : List ℕ) → changingLegal a ≡ true → Changing a
+changing a h =
+    record {
+      window = search (and-left, and-right, leb-true) depth 16;
+      enev = search (and-left, and-right) depth 16;
+    }
+
+false-true : false ≡ true → ⊥
+false-true h = let z : _≡_ {A = ℕ} 0 1 = ap bit h in omega arith
+
+mark-small : (n : ℕ) (b : Bool) → eqb n 0 || (eqb n 1 && b) ≡ true → n ≤ 1
+mark-small zero b h = omega arith
+mark-small (suc zero) b h = omega arith
+mark-small (suc (suc n)) b h = absurd (false-true (rw (ne-eqb (suc (suc n)) 0 (λ z. omega arith), ne-eqb (suc (suc n)) 1 (λ z. omega arith)) at h))
+
+window-held : (n : ℕ) → n ≤ 2 → windowNo (windowIn n) ≡ n
+window-held zero h = refl
+window-held (suc zero) h = refl
+window-held (suc (suc zero)) h = refl
+window-held (suc (suc (suc n))) h = absurd (omega arith)
+
+bit-held : (n : ℕ) → n ≤ 1 → bit (eqb n 1) ≡ n
+bit-held zero h = refl
+bit-held (suc zero) h = refl
+bit-held (suc (suc n)) h = absurd (omega arith)
+
+module _ (a : List ℕ) (long : length a ≡ rowWords) where
+  shape : a ≡ word a 0 ∷ word a 1 ∷ word a 2 ∷ word a 3 ∷ word a 4 ∷ word a 5 ∷ word a 6 ∷ word a 7
+      ∷ word a 8 ∷ word a 9 ∷ word a 10 ∷ word a 11 ∷ word a 12 ∷ word a 13 ∷ word a 14 ∷ word a 15
+      ∷ word a 16 ∷ word a 17 ∷ word a 18 ∷ word a 19 ∷ word a 20 ∷ word a 21 ∷ word a 22 ∷ word a 23 ∷ []
+  shape =
+      let end : length a ≤ 24 = omega arith in
+      rw (
+        drop-cons a 1 0 (omega arith),
+        drop-cons a 2 0 (omega arith),
+        drop-cons a 3 0 (omega arith),
+        drop-cons a 4 0 (omega arith),
+        drop-cons a 5 0 (omega arith),
+        drop-cons a 6 0 (omega arith),
+        drop-cons a 7 0 (omega arith),
+        drop-cons a 8 0 (omega arith),
+        drop-cons a 9 0 (omega arith),
+        drop-cons a 10 0 (omega arith),
+        drop-cons a 11 0 (omega arith),
+        drop-cons a 12 0 (omega arith),
+        drop-cons a 13 0 (omega arith),
+        drop-cons a 14 0 (omega arith),
+        drop-cons a 15 0 (omega arith),
+        drop-cons a 16 0 (omega arith),
+        drop-cons a 17 0 (omega arith),
+        drop-cons a 18 0 (omega arith),
+        drop-cons a 19 0 (omega arith),
+        drop-cons a 20 0 (omega arith),
+        drop-cons a 21 0 (omega arith),
+        drop-cons a 22 0 (omega arith),
+        drop-cons a 23 0 (omega arith),
+        drop-of-length-le a end,
+      ) at (drop-cons a 0 0 (omega arith))
+
+  held-words : wordsLegal a ≡ true → a ≡ wordsOf (recordOf a)
+  unfolding wordsOf recordOf
+  held-words h =
+      let p = both (staticsLegal a && changingLegal a) (notesLegal a) h in
+      let q = both (staticsLegal a) (changingLegal a) (p .0) in
+      let n = both (withinBits (word a 22)) _ (p .1) in
+      let s = statics a (q .0) in
+      let c = changing a (q .1) in
+      let i : word a 0 % 2 ^ 16 ≡ word a 0 = mod-eq-of-lt (omega (arith, s .id)) in
+      let g : word a 1 % 2 ^ 16 ≡ word a 1 = mod-eq-of-lt (omega (arith, s .group)) in
+      let r : word a 2 % 2 ^ 32 ≡ word a 2 = mod-eq-of-lt (omega (arith, s .random)) in
+      let o : word a 3 % 2 ^ 32 ≡ word a 3 = mod-eq-of-lt (omega (arith, s .optimal)) in
+      let w = window-held (word a 17) (c .window) in
+      let l = bit-held (word a 23) (mark-small _ _ (n .1)) in
+      let v : bitsOf (eventsIn (word a 13)) ≡ word a 13 = sym (eqb-true _ _ (c .enev)) in
+      let e : bitsOf (eventsIn (word a 22)) ≡ word a 22 = sym (eqb-true _ _ (n .0)) in
+      rw (i, g, r, o, w, v, e, l) shape
+
+  -- ---- so the two are the same
+
+  true-both-ways : (x y : Bool) → (x ≡ true → y ≡ true) → (y ≡ true → x ≡ true) → x ≡ y
+  true-both-ways true y f g = sym (f refl)
+  true-both-ways false true f g = g refl
+  true-both-ways false false f g = refl
+
+  known : wordsLegal a ≡ true → legalRow a ≡ true
+  unfolding legalRow
+  known h =
+      let e = held-words h in
+      together (sameWords a (wordsOf (recordOf a))) _ (ap (sameWords a) (sym e) ∙ same-self a) (sym (words-of-record (recordOf a)) ∙ ap wordsLegal (sym e) ∙ h)
+
+  told : legalRow a ≡ true → wordsLegal a ≡ true
+  told h = let r = row-of a h in ap wordsLegal (r .words) ∙ words-of-record (recordOf a) ∙ r .legal
+
+  legal-row : legalRow a ≡ wordsLegal a
+  legal-row = true-both-ways (legalRow a) (wordsLegal a) told known
+
+  id-word : legalRow a ≡ true → idOf (recordOf a) ≡ word a 0
+  unfolding wordsOf
+  id-word h = sym (ap (λ (l : List ℕ). word l 0) (row-of a h .words))
+
+  -- the test of a row that stands after another, as the code makes it
+  pub legal-after : (before : ℕ) → legalAfter before a ≡ ltb before (word a 0) && wordsLegal a
+  legal-after before = by (legalRow a) refl
+    where
+      by : (b : Bool) → legalRow a ≡ b → legalAfter before a ≡ ltb before (word a 0) && wordsLegal a
+      by true h = rw (h, id-word h, ← legal-row, h) (sym (and-true (ltb before (word a 0))))
+      by false h = rw (h, ← legal-row, h) (sym (and-false (ltb before (word a 0))))
+
+pub legal-words : LegalWords
+legal-words = legal-row
+
+-- ---- the tests as the code makes them
+
+or-false : (b : Bool) → b ≡ b || false
+or-false true = refl
+or-false false = refl
+
+pub above-same : (x y low most : ℕ) → x ≡ y → leb low most ≡ ltb x y || (eqb x y && leb low most)
+above-same x y low most e = rw (le-ltb x y (omega arith), eq-eqb x y e)
+
+pub above-other : (x y low most : ℕ) → (x ≡ y → ⊥) → ltb x y ≡ ltb x y || (eqb x y && leb low most)
+above-other x y low most e = rw (ne-eqb x y e) (or-false (ltb x y))
+
+at-zero : (x : ℕ) → leb x 0 ≡ eqb x 0
+at-zero zero = refl
+at-zero (suc x) = rw (lt-leb (suc x) 0 (omega arith), ne-eqb (suc x) 0 (λ z. omega arith))
+
+below-one : (x : ℕ) → ltb x 1 ≡ eqb x 0
+below-one zero = refl
+below-one (suc x) = rw (le-ltb (suc x) 1 (omega arith), ne-eqb (suc x) 0 (λ z. omega arith))
+
+pub at-most : (here : Bool) (x most : ℕ) → leb x (if here then most else 0) ≡ zeroOutside here (leb x most) x
+at-most true x most = refl
+at-most false x most = at-zero x
+
+pub below : (here : Bool) (x most : ℕ) → ltb x (if here then most else 1) ≡ zeroOutside here (ltb x most) x
+below true x most = refl
+below false x most = below-one x
+
+pub marked : (x : ℕ) (none : Bool) → leb x (if none then 0 else 1) ≡ eqb x 0 || (eqb x 1 && not none)
+marked zero true = refl
+marked zero false = refl
+marked (suc zero) true = refl
+marked (suc zero) false = refl
+marked (suc (suc x)) true = rw (lt-leb (suc (suc x)) 0 (omega arith), ne-eqb (suc (suc x)) 0 (λ z. omega arith), ne-eqb (suc (suc x)) 1 (λ z. omega arith))
+marked (suc (suc x)) false = rw (lt-leb (suc (suc x)) 1 (omega arith), ne-eqb (suc (suc x)) 0 (λ z. omega arith), ne-eqb (suc (suc x)) 1 (λ z. omega arith))
