@@ -39,7 +39,7 @@ const MINIMUM_HIGH: usize = 11;
 const MINIMUM_LOW: usize = 12;
 const ENEV: usize = 13;
 const THRESHOLDS: usize = 14;
-const HELD: usize = 17;
+const WINDOW_WORD: usize = 17;
 const CHARGES: usize = 18;
 const N_TIME: usize = 21;
 const EVENTS: usize = 22;
@@ -115,12 +115,12 @@ fn legal_rows(table: &mut [u8]) -> Result<&mut [u8], u16> {
 /// Whether a row is legal; that its identifier is not 0 follows from the order.
 #[inline(always)]
 fn is_legal(row: &Row) -> bool {
-    let held = get(row, HELD);
-    let in_d = held == D;
+    let window = get(row, WINDOW_WORD);
+    let in_d = window == D;
     let events = get(row, EVENTS);
     let listed = get(row, LISTED);
     let bound = |word: usize| if in_d { get(row, word) } else { 0 };
-    let n_bound = if held == N { get(row, MINIMUM_HIGH) } else { 0 };
+    let n_bound = if window == N { get(row, MINIMUM_HIGH) } else { 0 };
     get(row, IDENTIFIER) <= 0xFFFF
         && is_from_one(get(row, GROUP), 0xFFFF)
         && (get(row, RANDOM_READ_TYPICAL) | get(row, OPTIMAL_WRITE_SIZE)) >> 32 == 0
@@ -130,7 +130,7 @@ fn is_legal(row: &Row) -> bool {
         && is_from_one(get(row, TIME_MAXIMUM), DAY)
         && is_from_one(get(row, MINIMUM_HIGH), DAY)
         && is_from_one(get(row, MINIMUM_LOW), get(row, MINIMUM_HIGH))
-        && held <= N
+        && window <= N
         && (get(row, ENEV) | events) & !EVENT_MASK == 0
         && get(row, CHARGES) <= bound(READS_TYPICAL)
         && get(row, CHARGES + 1) <= bound(WRITES_TYPICAL)
@@ -199,8 +199,8 @@ fn fill_row(row: &mut Row, body: &[u8; BODY_BYTES]) {
     put(row, RANDOM_READ_TYPICAL, u32_at(body, 4).into());
     put(row, OPTIMAL_WRITE_SIZE, u32_at(body, 8).into());
     // Capacities, typicals and times stand in the row as they stand in the body.
-    row[8 * TOTAL..8 * HELD].copy_from_slice(&body[12..]);
-    row[8 * HELD..].fill(0);
+    row[8 * TOTAL..8 * ENEV].copy_from_slice(&body[12..]);
+    row[8 * ENEV..].fill(0);
 }
 
 fn reads(table: &mut [u8], set: u16, count: u16) -> u16 {
@@ -213,7 +213,7 @@ fn writes(table: &mut [u8], set: u16, count: u16) -> u16 {
 
 fn excursion(table: &mut [u8], set: u16) -> u16 {
     media_event(table, set, |row| {
-        if get(row, HELD) == D {
+        if get(row, WINDOW_WORD) == D {
             enter(row, N);
             note(row, EXCURSION);
         }
@@ -230,7 +230,7 @@ fn tick(table: &mut [u8], milliseconds: u32) -> u16 {
         return status::LONG_TICK;
     }
     for row in rows_mut(all) {
-        match get(row, HELD) {
+        match get(row, WINDOW_WORD) {
             D => tick_in_d(row, milliseconds),
             N => pass_n_time(row, get(row, N_TIME) + milliseconds),
             _ => (),
@@ -256,7 +256,7 @@ fn media_event(table: &mut [u8], set: u16, rule: impl FnOnce(&mut Row)) -> u16 {
 /// Charges reads (0) or writes (1).
 #[inline(always)]
 fn count_in_d(row: &mut Row, quantity: usize, count: u16) {
-    if get(row, HELD) != D {
+    if get(row, WINDOW_WORD) != D {
         return;
     }
     let sum = get(row, CHARGES + quantity) + u64::from(count);
@@ -302,7 +302,7 @@ fn pass_n_time(row: &mut Row, n_time: u64) {
 
 #[inline(always)]
 fn enter(row: &mut Row, window: u64) {
-    put(row, HELD, window);
+    put(row, WINDOW_WORD, window);
     row[8 * CHARGES..8 * EVENTS].fill(0);
 }
 
@@ -359,20 +359,20 @@ fn set_configuration(row: &mut Row, enable: bool, data: &[u8]) -> Outcome {
     let data = data.get(..CONFIGURATION_BYTES).ok_or(status::TOO_SHORT)?;
     enter(row, if enable { N } else { OFF });
     put(row, ENEV, u64::from(u16_at(data, 0)) & EVENT_MASK);
-    row[8 * THRESHOLDS..8 * CHARGES].copy_from_slice(&data[32..56]);
+    row[8 * THRESHOLDS..8 * WINDOW_WORD].copy_from_slice(&data[32..56]);
     Ok((0, 0))
 }
 
-fn set_window(row: &mut Row, window: u8) -> Outcome {
-    let held = get(row, HELD);
-    let window = u64::from(window);
-    if held == OFF || (window != D && window != N) {
+fn set_window(row: &mut Row, selected: u8) -> Outcome {
+    let window = get(row, WINDOW_WORD);
+    let selected = u64::from(selected);
+    if window == OFF || (selected != D && selected != N) {
         return Err(status::INVALID_FIELD);
     }
-    if held == window {
+    if selected == window {
         return Ok((0, 0));
     }
-    if window == N {
+    if selected == N {
         enter(row, N);
     } else if get(row, N_TIME) != get(row, MINIMUM_HIGH) {
         return Err(status::TOO_EARLY);
@@ -397,17 +397,17 @@ fn get_features(all: &mut [u8], command: &[u8; COMMAND_BYTES], answer: &mut [u8]
         return Err(status::INVALID_FIELD);
     }
     let row = find(all, u16_at(command, 44)).ok_or(status::INVALID_FIELD)?;
-    let held = get(row, HELD);
+    let window = get(row, WINDOW_WORD);
     if fid == CONFIGURATION {
         let page = answer.get_mut(..CONFIGURATION_BYTES).ok_or(status::TOO_SHORT)?;
         page.fill(0);
         page[0..2].copy_from_slice(&row[8 * ENEV..8 * ENEV + 2]);
-        page[32..56].copy_from_slice(&row[8 * THRESHOLDS..8 * CHARGES]);
-        Ok((u32::from(held != OFF), CONFIGURATION_BYTES))
-    } else if held == OFF {
+        page[32..56].copy_from_slice(&row[8 * THRESHOLDS..8 * WINDOW_WORD]);
+        Ok((u32::from(window != OFF), CONFIGURATION_BYTES))
+    } else if window == OFF {
         Err(status::INVALID_FIELD)
     } else {
-        Ok((held as u32, 0))
+        Ok((window as u32, 0))
     }
 }
 
@@ -449,10 +449,10 @@ fn give(page: &[u8], offset: usize, answer: &mut [u8]) {
 #[inline(always)]
 fn set_page(row: &Row) -> [u8; SET_PAGE_USED] {
     let mut page = [0; SET_PAGE_USED];
-    page[0] = row[8 * HELD];
+    page[0] = row[8 * WINDOW_WORD];
     page[2..4].copy_from_slice(&row[8 * EVENTS..8 * EVENTS + 2]);
-    page[32..72].copy_from_slice(&row[8 * READS_TYPICAL..8 * HELD]);
-    let is_estimated = match get(row, HELD) {
+    page[32..72].copy_from_slice(&row[8 * READS_TYPICAL..8 * ENEV]);
+    let is_estimated = match get(row, WINDOW_WORD) {
         OFF => false,
         D => true,
         _ => get(row, N_TIME) == get(row, MINIMUM_HIGH),

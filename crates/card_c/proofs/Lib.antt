@@ -1,3 +1,4 @@
 pub mod Region
 pub mod Refusals
 pub mod Filling
+pub mod Replies

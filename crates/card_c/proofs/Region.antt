@@ -31,19 +31,22 @@ use Rattle.steps.proofs.Frame.{here}
 use Rattle.card_c.specs.Entries.{EventAtC, replyPart, CommandAtC}
 use Rattle.card_c.specs.InPlace.{ruledBy, AnswerAtC, OnSetAtC}
 
--- ---- a rule on the record of a slot, as the code carries it out: loaded, ruled, settled
+-- ---- an effect on the record of a slot
 
-module _ (rule : Attributes → State → Effect) (r₀ r : Record) (e : Effect) (x : Record) (er : r ≡ r₀) (ee : e ≡ rule (r .attributes) (r .state)) (ex : x ≡ settled r e) where
-  pub is-ruled : x ≡ ruledBy rule r₀
-  is-ruled = rw (← er, ← ee) ex
+module _ (r₀ r : Record) (e : Effect) (x : Record) (er : r ≡ r₀) (ec : e .state .config ≡ r .state .config) (ex : x ≡ settled r e) where
+  pub is-moved : Moved r₀ x
+  is-moved = record { attributes = ap (λ (y : Record). y .attributes) ex ∙ ap (λ (y : Record). y .attributes) er; config = ap (λ (y : Record). y .state .config) ex ∙ ec ∙ ap (λ (y : Record). y .state .config) er }
 
-  pub is-moved : KeepsConfig rule → Moved r₀ x
-  is-moved keeps =
-      let s = is-ruled in
-      record { attributes = ap (λ (y : Record). y .attributes) s; config = ap (λ (y : Record). y .state .config) s ∙ keeps (r₀ .attributes) (r₀ .state) }
+  pub is-silent : isSilent e ≡ true → Silent r₀ x
+  is-silent h = record { moved = is-moved; notes = ap (λ (y : Record). y .notes) ex ∙ silent-notes r e h ∙ ap (λ (y : Record). y .notes) er }
 
-  pub is-silent : KeepsConfig rule → isSilent e ≡ true → Silent r₀ x
-  is-silent keeps h = record { moved = is-moved keeps; notes = ap (λ (y : Record). y .notes) ex ∙ silent-notes r e h ∙ ap (λ (y : Record). y .notes) er }
+-- that of a rule
+module _ (rule : Attributes → State → Effect) (r₀ r : Record) (e : Effect) (er : r ≡ r₀) (ee : e ≡ rule (r .attributes) (r .state)) where
+  pub stays : KeepsConfig rule → e .state .config ≡ r .state .config
+  stays keeps = ap (λ (y : Effect). y .state .config) ee ∙ keeps (r .attributes) (r .state)
+
+  pub is-ruled : settled r e ≡ ruledBy rule r₀
+  is-ruled = rw (ee, er)
 
 -- ---- events and ticks
 

@@ -1,14 +1,17 @@
 // Media events and ticks, each on the rows that it changes, where they lie.
 ghost use mathlib.Core.Path.{_≡_};
 ghost use mathlib.Core.List.{map};
+ghost use Rattle.record.specs.Events.{settled};
 ghost use Rattle.rules.specs.Rules.{readEvent, writeEvent, excursionEvent, tick};
 ghost use Rattle.table.specs.Table.{count, recordsOf, Legal, written};
-ghost use Rattle.region.specs.Region.{tableIn, tableOut, LegalAt};
+ghost use Rattle.region.specs.Region.{tableIn, tableOut, recordAt, withRecord, LegalAt};
 ghost use Rattle.steps.specs.Items.{Item};
 ghost use Rattle.steps.specs.Media.{mediaRule, itemOf, tickOne};
 ghost use Rattle.card_c.specs.Entries.{EventAtC};
 ghost use Rattle.card_c.specs.InPlace.{ruledAt};
 use card::media::DAY_MS;
+use record::Effect;
+use record::Record;
 use record::SetId;
 use record::Slot;
 use record::notices::is_silent;
@@ -23,6 +26,18 @@ use rules::write_event;
 use steps::Media;
 use table::Entry;
 
+// The record of a slot after an effect that leaves its configuration. Most effects note nothing, and leave the notes' words alone.
+fn store_effect(region: &mut [u8], slot: Slot, r: Record, e: Effect)
+    requires { ⌜ LegalAt (now region) (slot .0) × (r ≡ recordAt (now region) (slot .0)) × (e .state .config ≡ r .state .config) ⌝ }
+    ensures { λ _. ⌜ now (region .exit) ≡ withRecord (now (region .entry)) (slot .0) (settled r e) ⌝ }
+{
+    if is_silent(e) {
+        store_silent(region, slot, settle(r, e));
+    } else {
+        store_moved(region, slot, settle(r, e));
+    }
+}
+
 // Each event loads and stores by itself: a record that is made in one place and stored in another is copied on the way.
 
 fn reads_at(region: &mut [u8], slot: Slot, k: u16)
@@ -32,7 +47,7 @@ fn reads_at(region: &mut [u8], slot: Slot, k: u16)
     let r = load(region, slot);
     let a = r.attributes;
     let s = r.state;
-    store_moved(region, slot, settle(r, read_event(a, s, k)));
+    store_effect(region, slot, r, read_event(a, s, k));
 }
 
 fn writes_at(region: &mut [u8], slot: Slot, k: u16)
@@ -42,7 +57,7 @@ fn writes_at(region: &mut [u8], slot: Slot, k: u16)
     let r = load(region, slot);
     let a = r.attributes;
     let s = r.state;
-    store_moved(region, slot, settle(r, write_event(a, s, k)));
+    store_effect(region, slot, r, write_event(a, s, k));
 }
 
 fn excursion_at(region: &mut [u8], slot: Slot)
@@ -51,7 +66,17 @@ fn excursion_at(region: &mut [u8], slot: Slot)
 {
     let r = load(region, slot);
     let s = r.state;
-    store_moved(region, slot, settle(r, excursion_event(s)));
+    store_effect(region, slot, r, excursion_event(s));
+}
+
+fn tick_at(region: &mut [u8], slot: Slot, t: u32)
+    requires { ⌜ LegalAt (now region) (slot .0) ⌝ }
+    ensures { λ _. ⌜ now (region .exit) ≡ ruledAt (tick t) (now (region .entry)) (slot .0) ⌝ }
+{
+    let r = load(region, slot);
+    let a = r.attributes;
+    let s = r.state;
+    store_effect(region, slot, r, tick_event(a, s, t));
 }
 
 fn event_at(region: &mut [u8], slot: Slot, m: Media)
@@ -76,22 +101,6 @@ pub(crate) fn event(region: &mut [u8], id: u16, m: Media) -> u16
             event_at(region, slot, m);
             0
         }
-    }
-}
-
-// Most ticks of a set note nothing, and leave its notes' words alone.
-fn tick_at(region: &mut [u8], slot: Slot, t: u32)
-    requires { ⌜ LegalAt (now region) (slot .0) ⌝ }
-    ensures { λ _. ⌜ now (region .exit) ≡ ruledAt (tick t) (now (region .entry)) (slot .0) ⌝ }
-{
-    let r = load(region, slot);
-    let a = r.attributes;
-    let s = r.state;
-    let e = tick_event(a, s, t);
-    if is_silent(e) {
-        store_silent(region, slot, settle(r, e));
-    } else {
-        store_moved(region, slot, settle(r, e));
     }
 }
 

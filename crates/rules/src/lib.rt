@@ -3,6 +3,7 @@ mod windows;
 
 ghost use mathlib.Core.Path.{_≡_};
 ghost use Prim.Native.Nat.{_+_};
+ghost use Rattle.record.specs.declared.Window.{Window};
 ghost use Rattle.record.specs.Record.{afresh, effectOf};
 ghost use Rattle.rules.specs.Rules.{still, onlyInD, causeOfMode, configure, tooEarly, entered, selecting, select, refusalNo, isOver, causeOver, carried, leaving, charge, readEvent, writeEvent, excursionEvent, recovery, tick, clearingRead};
 use crate::windows::moved;
@@ -214,18 +215,20 @@ fn carried_over(a: Attributes, q: Quantity, count: u64, k: u64) -> u64
     }
 }
 
-// Out of D, with the warning that was reckoned and bit 14.
+// Out of D, with the warning that was reckoned and bit 14. That the set is in D stands in the code, so that the compiler can read the
+// table's entry ahead.
 fn leave_d(a: Attributes, s: State, q: Quantity, k: u64, low: Events) -> Effect
+    requires { ⌜ s .window ≡ Window.D ⌝ }
     ensures { λ r. ⌜ r ≡ leaving q k a s low ⌝ }
 {
-    let held = s.window;
     let n = carried_over(a, q, spent_of(s, q), k);
-    let t = started(s, moved(held, cause_over(q)), n);
+    let t = started(s, moved(Window::D, cause_over(q)), n);
     effect_of(t, and_exceeded(low), false)
 }
 
 // The estimate after is that before less k, so the sum is made only where it is within the limit.
 fn charge_by(a: Attributes, s: State, q: Quantity, k: u64) -> Effect
+    requires { ⌜ s .window ≡ Window.D ⌝ }
     ensures { λ r. ⌜ r ≡ charge q k a s ⌝ }
 {
     let most = limit_of(a, q);

@@ -9,7 +9,7 @@ tick-event-spec =
     (λ c. search needs)
     (λ c κs. search needs)
     (λ c. search needs)
-    (λ c κs. search needs)
+    (λ c κs. c .enum-told2 .given .1)
     (λ c. search needs)
     (λ c κs. search needs)
     (λ c. simp (c .keep-still .ensures, c .before .enum-told .given .1))

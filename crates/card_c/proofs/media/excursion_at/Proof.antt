@@ -3,7 +3,7 @@ use borrow.Author.Needs.{needs}
 use Rattle.rules.specs.Rules.{excursionEvent}
 use Rattle.rules.proofs.Staying.{excursion-stays}
 use Rattle.region.specs.Region.{recordAt, withRecord}
-use Rattle.card_c.proofs.Region.{is-ruled, is-moved}
+use Rattle.card_c.proofs.Region.{stays, is-ruled}
 use Rattle.card_c.proofs.media.excursion_at.Statement.{statement}
 use Rattle.card_c.proofs.media.excursion_at.Tie as tie
 
@@ -13,19 +13,16 @@ excursion-at-spec =
     (tie.spec
     (λ c κs. search needs)
     (λ c κs. search needs)
-    (λ c κs. search needs)
     (λ c κs.
-    let e = c .before in
-    let l = e .before .before .before in
+    let l = c .before .before .before in
     let s = l .before .before .before in
-    (s .pre, is-moved (λ a s. excursionEvent s) (recordAt (s .args .region .now) (s .args .slot .0)) _ _ _ (l .load .ensures) (e .excursion-event .ensures) (c .settle .ensures) (excursion-stays)))
+    (s .pre, l .load .ensures, stays (λ a s. excursionEvent s) (recordAt (s .args .region .now) (s .args .slot .0)) _ _ (l .load .ensures) (c .excursion-event .ensures) (excursion-stays)))
     (λ c. search needs)
     (λ c.
     let p = c .before .before in
-    let m = p .before in
-    let e = m .before in
+    let e = p .before in
     let l = e .before .before .before in
     let s = l .before .before .before in
     let b = s .args .region .now in
     let i = s .args .slot .0 in
-    p .store-moved .ensures ∙ ap (withRecord b i) (is-ruled (λ a s. excursionEvent s) (recordAt b i) _ _ _ (l .load .ensures) (e .excursion-event .ensures) (m .settle .ensures))))
+    p .store-effect .ensures ∙ ap (withRecord b i) (is-ruled (λ a s. excursionEvent s) (recordAt b i) _ _ (l .load .ensures) (e .excursion-event .ensures))))

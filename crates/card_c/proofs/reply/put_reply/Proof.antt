@@ -1,6 +1,7 @@
-use mathlib.Core.Path.{_∙_}
 use native.Mathlib.Omega.{arith}
 use borrow.Author.Needs.{needs}
+use lib.ListN.{length}
+use Rattle.card_c.proofs.Replies.{part-whole, part-short}
 use Rattle.card_c.proofs.reply.put_reply.Statement.{statement}
 use Rattle.card_c.proofs.reply.put_reply.Tie as tie
 
@@ -11,6 +12,13 @@ put-reply-spec =
     (λ c κs. search needs)
     (λ c κs. search needs)
     (λ c. search needs)
-    (λ c κs. (omega arith, omega (arith, c .before .before .least .ensures)))
+    (λ c κs. search needs)
     (λ c. search needs)
-    (λ c. c .before .before .copy-part .ensures ∙ rw (c .before .before .before .before .before .least .ensures, c .before .before .before .before .before .before .reply-page .ensures)))
+    (λ c. let t = c .before .before .before .before in
+    let a = t .before .before .args in
+    simp (part-whole (a .dword) (a .len) (length (a .reply .now)) (t .if1 .taken)) (c .before .before .put-whole .ensures))
+    (λ c. search needs)
+    (λ c. let r = c .before .before .before .before .before in
+    let t = r .before in
+    let a = t .before .before .args in
+    rw (r .reply-page .ensures, part-short (a .dword) (a .len) (length (a .reply .now)) (omega (arith, t .if1 .left))) at (c .before .before .copy-part .ensures)))
