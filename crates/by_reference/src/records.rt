@@ -1,7 +1,7 @@
 // The media layer charges one lent record in place.
 ghost use mathlib.Core.Path.{_≡_};
 ghost use Rattle.by_reference.specs.Records.{charged, ChargedInPlace};
-use card::media::after_event;
+use by_value::media::after_event;
 use record::Record;
 use record::legal::record_legal;
 use steps::Media;

@@ -1,49 +1,22 @@
 // Media events and ticks.
 ghost use mathlib.Core.Path.{_≡_};
 ghost use mathlib.Core.List.{map};
-ghost use Rattle.record.specs.Events.{settled};
 ghost use Rattle.rules.specs.Rules.{tick};
 ghost use Rattle.table.specs.Table.{count, Legal, recordsOf, written};
 ghost use Rattle.steps.specs.Items.{Item};
-ghost use Rattle.steps.specs.Media.{mediaRule, itemOf, tickOne};
+ghost use Rattle.steps.specs.Media.{itemOf, tickOne};
 ghost use Rattle.steps.specs.Words.{Stepped};
-use record::Attributes;
-use record::Effect;
-use record::Record;
+use by_value::media::DAY_MS;
+use by_value::media::after_event;
+use by_value::media::after_tick;
 use record::SetId;
 use record::Slot;
-use record::State;
-use record::notices::settle;
-use rules::excursion_event;
-use rules::read_event;
-use rules::tick_event;
-use rules::write_event;
 use steps::Media;
 use table::Entry;
 use table::enter;
 use table::legal;
 use table::load;
 use table::store;
-
-fn effect_of(a: Attributes, s: State, m: Media) -> Effect
-    ensures { λ r. ⌜ r ≡ mediaRule m a s ⌝ }
-{
-    match m {
-        Media::Reads(k) => read_event(a, s, k),
-        Media::Writes(k) => write_event(a, s, k),
-        Media::Excursion => excursion_event(s),
-    }
-}
-
-// The record after an event.
-pub fn after_event(r: Record, m: Media) -> Record
-    ensures { λ x. ⌜ x ≡ settled r (mediaRule m (r .attributes) (r .state)) ⌝ }
-{
-    let a = r.attributes;
-    let s = r.state;
-    let e = effect_of(a, s, m);
-    settle(r, e)
-}
 
 pub fn event(table: &mut [u64], id: SetId, m: Media) -> u16
     ensures { λ r. ⌜ Stepped (now (table .entry)) (itemOf (id .0) m) (now (table .exit)) r ⌝ }
@@ -78,15 +51,6 @@ pub fn excursion(table: &mut [u64], id: SetId) -> u16
     event(table, id, Media::Excursion)
 }
 
-pub fn after_tick(r: Record, t: u32) -> Record
-    ensures { λ x. ⌜ x ≡ tickOne t r ⌝ }
-{
-    let a = r.attributes;
-    let s = r.state;
-    let e = tick_event(a, s, t);
-    settle(r, e)
-}
-
 fn tick_all(table: &mut [u64], n: usize, t: u32)
     requires { ⌜ (n ≡ count (now table)) × Legal (now table) ⌝ }
     ensures { λ _. ⌜ now (table .exit) ≡ written (now (table .entry)) (map (tickOne t) (recordsOf (now (table .entry)))) ⌝ }
@@ -98,8 +62,6 @@ fn tick_all(table: &mut [u64], n: usize, t: u32)
         i += 1;
     }
 }
-
-pub const DAY_MS: u32 = 86400000;
 
 pub fn ticks(table: &mut [u64], t: u32) -> u16
     ensures { λ r. ⌜ Stepped (now (table .entry)) (Item.tick t) (now (table .exit)) r ⌝ }

@@ -1,95 +1,16 @@
 // Set-up from 84-byte bodies.
 ghost use mathlib.Core.Path.{_≡_};
-ghost use mathlib.Core.Bool.{true};
 ghost use mathlib.Core.List.{map};
 ghost use Prim.Native.Nat.{_+_, _*_, _≤_};
 ghost use lib.ListN.{length};
-ghost use Rattle.table.specs.Table.{rowStart, legalSets, written};
+ghost use Rattle.table.specs.Table.{rowStart, written};
 ghost use Rattle.pages.specs.Bodies.{bodySize};
-ghost use Rattle.steps.specs.SetUp.{newState, newRecord, followsOf, attributesFrom, setUpStatus, SetUp};
+ghost use Rattle.steps.specs.SetUp.{newRecord, attributesFrom, SetUp};
+use by_value::setting::new_record;
+use by_value::setting::refusal;
+use pages::bodies::BODY;
 use pages::bodies::attributes_in;
-use record::Attributes;
-use record::Config;
-use record::Notes;
-use record::Record;
 use record::Slot;
-use record::State;
-use record::Thresholds;
-use record::Window;
-use record::legal::MAX_SETS;
-use record::legal::attributes_legal;
-use record::notices::no_events;
-use table::rows::HEADER;
-use table::rows::ROW;
-
-pub const BODY: usize = 84;
-
-fn off() -> State
-    ensures { λ r. ⌜ r ≡ newState ⌝ }
-{
-    let enabled = no_events();
-    let thresholds = Thresholds {
-        reads: 0,
-        writes: 0,
-        time: 0,
-    };
-    let config = Config {
-        enabled: enabled,
-        thresholds: thresholds,
-    };
-    State {
-        window: Window::Off,
-        config: config,
-        reads: 0,
-        writes: 0,
-        time: 0,
-        n_time: 0,
-    }
-}
-
-pub fn new_record(a: Attributes) -> Record
-    ensures { λ r. ⌜ r ≡ newRecord a ⌝ }
-{
-    let state = off();
-    let events = no_events();
-    let notes = Notes {
-        events: events,
-        listed: false,
-    };
-    Record {
-        attributes: a,
-        state: state,
-        notes: notes,
-    }
-}
-
-// Whether attributes are in range and their identifier is above the one before.
-fn follows(before: u64, a: Attributes) -> bool
-    ensures { λ r. ⌜ r ≡ followsOf before a ⌝ }
-{
-    let id = a.id.0 as u64;
-    attributes_legal(a) & (before < id)
-}
-
-fn bodies_legal(bytes: &[u8], n: usize) -> bool
-    requires { ⌜ n * bodySize ≤ length (now bytes) ⌝ }
-    ensures { λ r. ⌜ r ≡ legalSets 0 (map newRecord (attributesFrom (now (bytes .entry)) 0 n)) ⌝ }
-{
-    let mut before = 0;
-    let mut at = 0;
-    let mut i = 0;
-    while i < n {
-        let a = attributes_in(bytes, at);
-        if follows(before, a) {
-            before = a.id.0 as u64;
-        } else {
-            return false;
-        }
-        at += BODY;
-        i += 1;
-    }
-    true
-}
 
 // The rows of n new sets.
 fn write_rows(table: &mut [u64], bytes: &[u8], n: usize)
@@ -104,20 +25,6 @@ fn write_rows(table: &mut [u64], bytes: &[u8], n: usize)
         at += BODY;
         i += 1;
     }
-}
-
-pub fn refusal(bytes: &[u8], words: usize) -> u16
-    ensures { λ r. ⌜ r ≡ setUpStatus (now (bytes .entry)) words ⌝ }
-{
-    let n = bytes.len() / BODY;
-    let legal = bodies_legal(bytes, n);
-    let tests = [
-        !((1 <= n) & (n <= MAX_SETS)),
-        !(bytes.len() % BODY == 0),
-        !legal,
-        words < HEADER + n * ROW,
-    ];
-    replies::first(&tests, &[0x07C4, 0x07C4, 0x07C4, 0x07C2])
 }
 
 // Nothing is written unless all is well.

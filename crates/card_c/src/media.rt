@@ -9,7 +9,7 @@ ghost use Rattle.steps.specs.Items.{Item};
 ghost use Rattle.steps.specs.Media.{mediaRule, itemOf, tickOne};
 ghost use Rattle.card_c.specs.Entries.{EventAtC};
 ghost use Rattle.card_c.specs.InPlace.{ruledAt};
-use card::media::DAY_MS;
+use by_value::media::DAY_MS;
 use record::Effect;
 use record::Record;
 use record::SetId;

@@ -9,9 +9,9 @@ ghost use Rattle.pages.specs.Bodies.{bodySize};
 ghost use Rattle.region.specs.Region.{withRecords};
 ghost use Rattle.steps.specs.SetUp.{newRecord, attributesFrom};
 ghost use Rattle.card_c.specs.Entries.{SetUpAtC};
-use card::setting::BODY;
-use card::setting::new_record;
-use card::setting::refusal;
+use by_value::setting::new_record;
+use by_value::setting::refusal;
+use pages::bodies::BODY;
 use pages::bodies::attributes_in;
 use record::Slot;
 

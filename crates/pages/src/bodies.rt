@@ -12,6 +12,8 @@ use record::Capacity;
 use record::Group;
 use record::SetId;
 
+pub const BODY: usize = 84;
+
 fn capacity_in(bytes: &[u8], at: usize) -> Capacity
     requires { ⌜ at + 16 ≤ length (now bytes) ⌝ }
     ensures { λ r. ⌜ r ≡ capacityIn (now (bytes .entry)) at ⌝ }
@@ -54,7 +56,7 @@ pub fn attributes_in(bytes: &[u8], at: usize) -> Attributes
     }
 }
 
-pub fn body_of(a: Attributes) -> [u8; 84]
+pub fn body_of(a: Attributes) -> [u8; BODY]
     ensures { λ r. ⌜ r ≡ body a ⌝ }
 {
     let rows = [

@@ -1,7 +1,7 @@
 // The sets at the start of a tape.
 use crate::feed;
 use crate::feed::Place;
-use card::setting::BODY;
+use pages::bodies::BODY;
 use tape::Next;
 use tape::items::next_set;
 

@@ -16,7 +16,7 @@ use crate::lines::item_line;
 use card::answering::command;
 use card::media::event;
 use card::media::ticks;
-use card::setting::BODY;
+use pages::bodies::BODY;
 use pages::read::short;
 use pages::read::word;
 use record::SetId;
