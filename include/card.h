@@ -3,8 +3,8 @@
  *
  * The card's whole state is one region of bytes, the table, which the caller owns, keeps and lends to each call. The library
  * holds nothing between calls, takes no memory of its own, starts no thread and prints nothing. Tables are independent: calls
- * on different tables may run at the same time. It is x86-64 code, needs memcpy and memset and nothing else, and a call takes less
- * than 16 KiB of stack.
+ * on different tables may run at the same time. It is x86-64 code and needs memcpy and memset and nothing else. A call of card_command
+ * takes at most CARD_COMMAND_STACK_BYTES of stack, a call of any other at most CARD_STACK_BYTES.
  *
  * Every function takes any bytes whatever. It returns CARD_OK, or the one number below that says why it refused; a refused
  * call changes no byte of the table and no byte of the answer buffer. All numbers in the regions are little-endian, and no
@@ -55,6 +55,9 @@ extern "C" {
 #define CARD_ANSWER_BYTES 4096 /* an answer buffer of so many bytes is never too short */
 #define CARD_BODY_BYTES 84     /* one set's attributes, for set-up */
 #define CARD_REPLY_BYTES 16    /* what card_command says beside its status */
+
+#define CARD_COMMAND_STACK_BYTES 5632 /* of card_command, with all that it calls but memcpy and memset */
+#define CARD_STACK_BYTES 768          /* of any other function, likewise */
 
 /* How many bytes the table of so many sets takes. Bytes after them are neither read nor written. */
 #define CARD_TABLE_BYTES(sets) (8u * (1u + 24u * (sets)))

@@ -1,7 +1,7 @@
-//! Times each function of libcard_c.a against the baseline, alternating in one run, and prints a Markdown table.
+//! Times each function of libcard_c.a against the baseline, alternating in one process, and prints a Markdown table.
 //!
 //! Each call gets a table of its own in the state that the case is about, since many calls change it; the tables are renewed
-//! outside the timed part.
+//! outside the timed part. A row is the median of several runs, and says between what its ratios lay.
 
 mod baseline;
 mod card_c;
@@ -17,17 +17,25 @@ use trials::entries::{Entries, MODEL};
 const BATCH: usize = 32;
 const BATCHES: usize = 200;
 const ROUNDS: usize = 21;
+const RUNS: usize = 5;
 const RECOVERY: u32 = 20;
 
-/// The state of a card before the timed call.
+/// The state of the named set before the timed call.
 #[derive(Clone, Copy)]
 enum State {
-    /// All sets in D, and charges that drive none of them out.
+    /// In D, and charges that do not drive it out.
     InD,
-    /// All sets in N, with their time spent.
+    /// In N, with its time spent.
     Recovered,
-    /// All sets in N, with events and listed.
+    /// In N, with events and listed.
     Listed,
+}
+
+/// The other sets: all as the named one is, or some off, some in D and some in N, so that a branch by the window is not foreseen.
+#[derive(Clone, Copy)]
+enum Others {
+    Alike,
+    Mixed,
 }
 
 /// What is timed.
@@ -61,7 +69,7 @@ const CASES: [Case; 12] = [
     command("Set 14h, select D", State::Recovered, SET_FEATURES, [WINDOW as u32, MIDDLE, 1, 0]),
     command("Get 14h", State::InD, GET_FEATURES, [WINDOW as u32, MIDDLE, 0, 0]),
     command("page 0Ah, 512 bytes, clearing", State::Listed, GET_LOG_PAGE, [SET_PAGE as u32 | 127 << 16, MIDDLE & !0xFFFF, 0, 0]),
-    command("page 0Bh, 72 bytes, all listed", State::Listed, GET_LOG_PAGE, [LIST_PAGE as u32 | 17 << 16, 0, 0, 0]),
+    command("page 0Bh, 72 bytes", State::Listed, GET_LOG_PAGE, [LIST_PAGE as u32 | 17 << 16, 0, 0, 0]),
     command("Identify", State::InD, IDENTIFY, [SET_LIST as u32, 0, 0, 0]),
     Case { name: "reads", state: State::InD, timed: Timed::Reads },
     Case { name: "writes", state: State::InD, timed: Timed::Writes },
@@ -70,19 +78,50 @@ const CASES: [Case; 12] = [
 ];
 
 fn main() {
-    println!("| call | sets | card_c, ns | baseline, ns | ratio |");
-    println!("|---|---:|---:|---:|---:|");
+    println!("| call | sets | windows | card_c, ns | baseline, ns | ratio | between |");
+    println!("|---|---:|---|---:|---:|---:|---|");
+    let mut worst: f64 = 0.0;
     for case in &CASES {
-        for sets in [1, 8, 31] {
-            let (ours, baseline) = compare(case, sets);
-            println!("| {} | {} | {:.0} | {:.0} | {:.2} |", case.name, sets, ours, baseline, ours / baseline);
+        for (sets, others) in [(1, Others::Alike), (8, Others::Alike), (8, Others::Mixed), (31, Others::Alike), (31, Others::Mixed)] {
+            let row = compare(case, sets, others);
+            worst = worst.max(row.ratio);
+            println!("| {} | {} | {} |{}", case.name, sets, if let Others::Alike = others { "one" } else { "mixed" }, row.text());
         }
+    }
+    println!("\nmedians of {RUNS} runs of {ROUNDS} rounds each; the highest ratio is {worst:.2}");
+}
+
+struct Row {
+    ours: f64,
+    baseline: f64,
+    ratio: f64,
+    lowest: f64,
+    highest: f64,
+}
+
+impl Row {
+    fn text(&self) -> String {
+        let Row { ours, baseline, ratio, lowest, highest } = self;
+        format!(" {ours:.0} | {baseline:.0} | {ratio:.2} | {lowest:.2} to {highest:.2} |")
     }
 }
 
-/// The medians of the rounds, in ns for each call.
-fn compare(case: &Case, sets: u16) -> (f64, f64) {
-    let mut bench = Bench::new(case, sets);
+/// The medians of the runs: ns for each call, and the ratio of the two.
+fn compare(case: &Case, sets: u16, others: Others) -> Row {
+    let mut bench = Bench::new(case, sets, others);
+    let (mut ours, mut baselines, mut ratios) = (Vec::new(), Vec::new(), Vec::new());
+    for _ in 0..RUNS {
+        let (own, baseline) = run(&mut bench);
+        ours.push(own);
+        baselines.push(baseline);
+        ratios.push(own / baseline);
+    }
+    let ratio = median(&mut ratios);
+    Row { ours: median(&mut ours), baseline: median(&mut baselines), ratio, lowest: ratios[0], highest: ratios[RUNS - 1] }
+}
+
+/// The medians of the rounds of one run, in ns for each call.
+fn run(bench: &mut Bench) -> (f64, f64) {
     let (ours, baseline) = (opaque(&card_c::ENTRIES), opaque(&baseline::ENTRIES));
     let mut rounds: [Vec<f64>; 2] = [Vec::new(), Vec::new()];
     for _ in 0..ROUNDS {
@@ -116,14 +155,14 @@ struct Bench {
 }
 
 impl Bench {
-    fn new(case: &Case, sets: u16) -> Bench {
+    fn new(case: &Case, sets: u16, others: Others) -> Bench {
         let set = sets / 2 + 1;
         let bodies: Vec<u8> = (1..=sets).flat_map(body).collect();
         let command = match case.timed {
             Timed::Command { opcode, dwords } => command_of(opcode, dwords, set),
             _ => [0; 64],
         };
-        let table = prepared(&bodies, sets, case.state);
+        let table = prepared(&bodies, sets, set, case.state, others);
         Bench {
             timed: case.timed,
             set,
@@ -201,19 +240,20 @@ fn command_of(opcode: u8, dwords: [u32; 4], set: u16) -> [u8; 64] {
     command
 }
 
-/// The table of a case, made by the model.
-fn prepared(bodies: &[u8], sets: u16, state: State) -> Vec<u8> {
+/// The table of a case, made by the model. Of mixed sets one in three is off, one in D and one in N.
+fn prepared(bodies: &[u8], sets: u16, named: u16, state: State, others: Others) -> Vec<u8> {
     let mut table = vec![0; table_bytes(sets.into())];
     let mut statuses = (MODEL.set_up)(&mut table, bodies);
-    for set in 1..=sets {
+    let alike = |set: u16| set == named || matches!(others, Others::Alike);
+    let is_on = |set: u16| alike(set) || set % 3 != 0;
+    let enters_d = |set: u16| if alike(set) { !matches!(state, State::Recovered) } else { set % 3 == 1 };
+    for set in (1..=sets).filter(|&set| is_on(set)) {
         statuses |= set_feature(&mut table, CONFIGURATION, set);
     }
     statuses |= (MODEL.tick)(&mut table, RECOVERY);
-    for set in 1..=sets {
-        if !matches!(state, State::Recovered) {
-            statuses |= set_feature(&mut table, WINDOW, set);
-        }
-        if matches!(state, State::Listed) {
+    for set in (1..=sets).filter(|&set| is_on(set) && enters_d(set)) {
+        statuses |= set_feature(&mut table, WINDOW, set);
+        if matches!(state, State::Listed) && alike(set) {
             statuses |= (MODEL.excursion)(&mut table, set);
         }
     }
