@@ -59,11 +59,36 @@ up_to_date() { # FILE
     [ -f "$1" ] && [ -z "$(find "$root/crates" "$root/crates.txt" -newer "$1" -print -quit)" ]
 }
 
-# The archive of a library's C functions, made anew where it has to be.
+# The crates of the repository that one rests on, and itself.
+reached() { # NAME
+    local dependency
+    grep -q "^$1:" "$root/crates.txt" || return 0
+    for dependency in $(sed -n "s/^$1://p" "$root/crates.txt"); do reached "$dependency"; done
+    echo "$1"
+}
+
+# Has rt prove a crate, and says on standard error crate by crate how far it is: from nothing that takes minutes.
+proving() { # check|staticlib NAME
+    local log=$root/target/$1-$2.log all count=0 line
+    mkdir -p "$root/target"
+    all=$(reached "$2" | sort -u | wc -l)
+    echo "proving $2 and what it rests on, $all crates; the first time takes some minutes" >&2
+    (cd "$root" && rt "$1" "$2") 2>&1 | tee "$log" | while read -r line; do
+        if [[ $line =~ ^rt:\ ([a-z_]+)\ proved\ (.*)$ ]]; then
+            count=$((count + 1))
+            echo "$count of $all: ${BASH_REMATCH[1]} proved ${BASH_REMATCH[2]}" >&2
+        fi
+    done
+    [ "${PIPESTATUS[0]}" -eq 0 ] || { tail -n 5 "$log" >&2; return 1; }
+}
+
+# A program's proved build, and the archive of a library's C functions, made anew where they have to be.
+program() { # NAME
+    up_to_date "$root/target/bin/$1" || proving check "$1"
+}
+
 archive() { # NAME
-    local made=$root/target/staticlib/lib$1.a log=$root/target/staticlib.log
-    if ! up_to_date "$made"; then
-        (cd "$root" && rt staticlib "$1") >"$log" 2>&1 || { tail -n 5 "$log" >&2; return 1; }
-    fi
+    local made=$root/target/staticlib/lib$1.a
+    up_to_date "$made" || proving staticlib "$1"
     echo "$made"
 }
