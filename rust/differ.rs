@@ -2,9 +2,12 @@
 
 mod card_c;
 
+use trials::holding::{arguments, hold};
+
 fn main() {
-    let (seed, items) = trials::holding::arguments(1, 1_000_000);
-    if !trials::holding::hold("card_c", &card_c::ENTRIES, seed, items) {
+    let (seed, items, _) = arguments(1, 1_000_000);
+    let mut functions = card_c::ENTRIES;
+    if !hold("card_c", &mut functions, seed, items) {
         std::process::exit(1);
     }
 }

@@ -2,9 +2,12 @@
 
 mod baseline;
 
+use trials::holding::{arguments, hold};
+
 fn main() {
-    let (seed, items) = trials::holding::arguments(1, 200_000);
-    if !trials::holding::hold("baseline", &baseline::ENTRIES, seed, items) {
+    let (seed, items, _) = arguments(1, 200_000);
+    let mut functions = baseline::ENTRIES;
+    if !hold("baseline", &mut functions, seed, items) {
         std::process::exit(1);
     }
 }

@@ -69,8 +69,9 @@ pub fn carry_out(
     bytes: &[u8],
     given: &[u8],
     answer: &mut [u8],
+    buf: &mut [u8],
 ) {
     answer_by(head, table, bytes, given, answer);
-    give_words(table);
+    give_words(table, buf);
     give(answer);
 }

@@ -19,8 +19,10 @@ use streams::take;
 use streams::take_words;
 use streams::words_part;
 
-// More than 31 sets need, and 200 bodies.
-const WORDS: usize = 2048;
+// 200 bodies, and the words that so many sets would need: far more than a card has.
+const WORDS: usize = 5120;
+
+const BYTES: usize = 40960;
 
 const ANSWER: usize = 8192;
 
@@ -28,28 +30,61 @@ const COMMAND: usize = 128;
 
 const DATA: usize = 20480;
 
+// How many words and bytes follow a head.
+struct Sizes {
+    table: usize,
+    answer: usize,
+    command: usize,
+    data: usize,
+}
+
+fn sizes_in(head: &[u8; HEAD]) -> Sizes {
+    Sizes {
+        table: number(head, 8, 2) as usize,
+        answer: number(head, 10, 2) as usize,
+        command: number(head, 12, 2) as usize,
+        data: number(head, 14, 2) as usize,
+    }
+}
+
+// Reads what follows a head; whether all came.
+fn take_all(
+    n: Sizes,
+    words: &mut [u64],
+    answer: &mut [u8],
+    command: &mut [u8],
+    data: &mut [u8],
+    buf: &mut [u8],
+) -> bool {
+    let a = take_words(words, n.table, buf);
+    let b = take(answer, n.answer);
+    let c = take(command, n.command);
+    let d = take(data, n.data);
+    a & b & c & d
+}
+
 // One call; whether there may be another.
-fn one_call(words: &mut [u64], answer: &mut [u8], command: &mut [u8], data: &mut [u8]) -> bool {
+fn one_call(
+    words: &mut [u64],
+    answer: &mut [u8],
+    command: &mut [u8],
+    data: &mut [u8],
+    buf: &mut [u8],
+) -> bool {
     let mut head = [0u8; HEAD];
-    if take(&mut head, HEAD) {
-        let table = number(&head, 8, 2) as usize;
-        let room = number(&head, 10, 2) as usize;
-        let length = number(&head, 12, 2) as usize;
-        let given = number(&head, 14, 2) as usize;
-        let a = take_words(words, table);
-        let b = take(answer, room);
-        let c = take(command, length);
-        let d = take(data, given);
-        if a & b & c & d {
-            carry_out(
-                &head,
-                words_part(words, table),
-                part(command, length),
-                part(data, given),
-                part_mut(answer, room),
-            );
-            return true;
-        }
+    let begun = take(&mut head, HEAD);
+    let n = sizes_in(&head);
+    let came = take_all(n, words, answer, command, data, buf);
+    if begun & came {
+        carry_out(
+            &head,
+            words_part(words, n.table),
+            part(command, n.command),
+            part(data, n.data),
+            part_mut(answer, n.answer),
+            buf,
+        );
+        return true;
     }
     false
 }
@@ -60,9 +95,10 @@ fn main() {
     let mut answer = [0u8; ANSWER];
     let mut command = [0u8; COMMAND];
     let mut data = [0u8; DATA];
+    let mut buf = [0u8; BYTES];
     let mut turns = u64::MAX;
     while 0 < turns {
-        if one_call(&mut words, &mut answer, &mut command, &mut data) {
+        if one_call(&mut words, &mut answer, &mut command, &mut data, &mut buf) {
             turns -= 1;
         } else {
             return;

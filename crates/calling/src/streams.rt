@@ -6,8 +6,6 @@ use octets::words::words_out;
 
 pub const HEAD: usize = 16;
 
-const BYTES: usize = 16384;
-
 // The number in some bytes of a head; 0 where they are not there.
 pub fn number(head: &[u8; HEAD], at: usize, width: usize) -> u64 {
     if at <= HEAD {
@@ -62,13 +60,12 @@ fn to_bytes(words: &[u64], bytes: &mut [u8]) {
     }
 }
 
-// The same of words.
-pub fn take_words(words: &mut [u64], n: usize) -> bool {
-    let mut bytes = [0u8; BYTES];
-    if n <= BYTES / 8 {
-        if n <= words.len() {
-            let came = take(&mut bytes, 8 * n);
-            from_bytes(&bytes, &mut words[0..n]);
+// The same of words; their bytes pass through a buffer.
+pub fn take_words(words: &mut [u64], n: usize, buf: &mut [u8]) -> bool {
+    if n <= words.len() {
+        if n <= buf.len() / 8 {
+            let came = take(buf, 8 * n);
+            from_bytes(buf, &mut words[0..n]);
             return came;
         }
     }
@@ -79,11 +76,10 @@ pub fn give(bytes: &[u8]) {
     io::write_all(STDOUT_FILENO, bytes);
 }
 
-pub fn give_words(words: &[u64]) {
-    let mut bytes = [0u8; BYTES];
-    if words.len() <= BYTES / 8 {
-        to_bytes(words, &mut bytes);
-        let n = 8 * words.len();
-        give(&bytes[0..n]);
+pub fn give_words(words: &[u64], buf: &mut [u8]) {
+    let n = words.len();
+    if n <= buf.len() / 8 {
+        to_bytes(words, buf);
+        give(part(buf, 8 * n));
     }
 }

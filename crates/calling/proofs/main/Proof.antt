@@ -5,12 +5,12 @@ use Rattle.calling.proofs.main.Statement.{statement}
 use Rattle.calling.proofs.main.Tie as tie
 
 abbrev Inv-loop : tie.InvT-loop
-Inv-loop words₀ answer₀ command₀ data₀ turns₀ words answer command «data» turns =
-    (length words ≡ length words₀) × (length answer ≡ length answer₀) × (length command ≡ length command₀)
+Inv-loop words₀ answer₀ command₀ data₀ buf₀ turns₀ words answer command «data» buf turns =
+    (length words ≡ length words₀) × (length buf ≡ length buf₀) × (length answer ≡ length answer₀) × (length command ≡ length command₀)
     × (length «data» ≡ length data₀)
 
 abbrev μ-loop : tie.MeasureT-loop
-μ-loop words₀ answer₀ command₀ data₀ turns₀ words answer command «data» turns = turns
+μ-loop words₀ answer₀ command₀ data₀ buf₀ turns₀ words answer command «data» buf turns = turns
 
 pub main-spec : {M : Type 1} → statement M
 main-spec =
@@ -18,6 +18,7 @@ main-spec =
     (tie.spec
     Inv-loop
     μ-loop
+    (λ c. search needs)
     (λ c. search needs)
     (λ c. search needs)
     (λ c. search needs)
