@@ -2,12 +2,7 @@
 
 mod card_c;
 
-use trials::holding::{arguments, hold};
-
 fn main() {
-    let (seed, items, _) = arguments(1, 1_000_000);
-    let mut functions = card_c::ENTRIES;
-    if !hold("card_c", &mut functions, seed, items) {
-        std::process::exit(1);
-    }
+    let (seed, items, _) = trials::holding::arguments(1, 1_000_000);
+    trials::run("card_c", &mut card_c::ENTRIES.clone(), seed, items);
 }

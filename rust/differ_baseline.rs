@@ -2,12 +2,7 @@
 
 mod baseline;
 
-use trials::holding::{arguments, hold};
-
 fn main() {
-    let (seed, items, _) = arguments(1, 200_000);
-    let mut functions = baseline::ENTRIES;
-    if !hold("baseline", &mut functions, seed, items) {
-        std::process::exit(1);
-    }
+    let (seed, items, _) = trials::holding::arguments(1, 200_000);
+    trials::run("baseline", &mut baseline::ENTRIES.clone(), seed, items);
 }
