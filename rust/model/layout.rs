@@ -53,7 +53,7 @@ pub fn read_table(table: &[u8]) -> Option<Vec<Set>> {
     }
     let rows = table.get(HEADER_BYTES..table_bytes(sets as usize))?;
     let read: Vec<Set> = rows.chunks_exact(ROW_BYTES).map(read_row).collect::<Option<_>>()?;
-    Some(read).filter(|sets| is_rising(sets))
+    Some(read).filter(|sets| sets.iter().all(Set::is_legal) && is_rising(sets))
 }
 
 /// Writes header and rows; "words past it are neither read nor written".
@@ -103,10 +103,11 @@ pub fn put_word(bytes: &mut [u8], place: usize, word: u64) {
     bytes[WORD_BYTES * place..WORD_BYTES * (place + 1)].copy_from_slice(&word.to_le_bytes());
 }
 
-/// The set of a row, if the row is legal. A word that is too large for its field has some of its "unused bits" set.
-fn read_row(bytes: &[u8]) -> Option<Set> {
+/// The set of a row, whether legal or not, if there is one: a word that is too large for its field has some of its "unused bits"
+/// set.
+pub fn read_row(bytes: &[u8]) -> Option<Set> {
     let row = |field: usize| word_of(bytes, field);
-    let set = Set {
+    Some(Set {
         attributes: Attributes {
             identifier: row(field::IDENTIFIER).try_into().ok()?,
             group: row(field::GROUP).try_into().ok()?,
@@ -129,8 +130,7 @@ fn read_row(bytes: &[u8]) -> Option<Set> {
         n_time: row(field::N_TIME),
         events: row(field::EVENTS).try_into().ok()?,
         listed: mark(row(field::LISTED))?,
-    };
-    Some(set).filter(Set::is_legal)
+    })
 }
 
 fn row_of(set: &Set) -> [u64; ROW_WORDS] {

@@ -1,4 +1,4 @@
-//! The cases of cases.txt, each with its outcome worked out by hand. That file says how it is written.
+//! Cases with their outcomes worked out by hand. cases.txt says how they are written.
 
 use crate::calls::{Call, Function, Outcome, Regions, Takes};
 use crate::entries::MODEL;
@@ -8,7 +8,9 @@ use model::layout::{put_word, BODY_BYTES, HEADER_BYTES, MAX_SETS, ROW_WORDS, WOR
 use model::status;
 use std::collections::BTreeMap;
 
-const TEXT: &str = include_str!("cases.txt");
+/// For the functions on a table, and for those over references.
+pub const CASES: &str = include_str!("cases.txt");
+pub const LENT_CASES: &str = include_str!("lent.txt");
 
 /// The names of a row's words, in their order.
 const FIELDS: [&str; ROW_WORDS] = [
@@ -62,13 +64,13 @@ struct Cases<'a> {
 }
 
 /// Gives every case to one that takes calls and to the model. Answers whether each did what the case says.
-pub fn hold_cases(name: &str, taker: &mut dyn Takes) -> bool {
+pub fn hold_cases(name: &str, taker: &mut dyn Takes, text: &str) -> bool {
     let random = Random::new(0);
     let (attributes, data) = (BTreeMap::new(), BTreeMap::new());
     let mut cases = Cases { name, taker, random, attributes, data, sets: Vec::new(), table: Vec::new(), goes_on: false, done: 0 };
-    for (number, line) in TEXT.lines().enumerate() {
+    for (number, line) in text.lines().enumerate() {
         if let Err(why) = cases.line(line) {
-            println!("{} in line {} of cases.txt: {}", why, number + 1, line);
+            println!("{} in line {} of the cases: {}", why, number + 1, line);
             return false;
         }
     }

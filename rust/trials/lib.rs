@@ -6,13 +6,14 @@ pub mod counts;
 pub mod damage;
 pub mod entries;
 pub mod holding;
+pub mod lending;
 pub mod random;
 pub mod samples;
-pub mod words;
+pub mod streams;
 
 /// Gives the cases and so many random items to one that takes calls. Ends the program with 1 where it does not do as it should.
 pub fn run(name: &str, taker: &mut dyn calls::Takes, seed: u64, items: u64) {
-    if !(cases::hold_cases(name, taker) && holding::hold(name, taker, seed, items)) {
+    if !(cases::hold_cases(name, taker, cases::CASES) && holding::hold(name, taker, seed, items)) {
         std::process::exit(1);
     }
 }

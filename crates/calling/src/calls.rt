@@ -1,8 +1,4 @@
 // One call, and what it answered.
-use crate::streams::HEAD;
-use crate::streams::give;
-use crate::streams::give_words;
-use crate::streams::number;
 use card::answering::command;
 use card::answering::command_part;
 use card::media::excursion;
@@ -11,29 +7,26 @@ use card::media::ticks;
 use card::media::writes;
 use card::setting::set_up;
 use record::SetId;
-
-const REPLY: usize = 12;
-
-fn give_reply(status: u16, dword: u32, len: usize) {
-    let mut reply = [0u8; REPLY];
-    octets::put(&mut reply, 0, 2, status as u64);
-    octets::put(&mut reply, 4, 4, dword as u64);
-    octets::put(&mut reply, 8, 4, len as u64);
-    give(&reply);
-}
+use streams::HEAD;
+use streams::count_in;
+use streams::give;
+use streams::give_reply;
+use streams::give_words;
+use streams::number;
+use streams::set_in;
+use streams::time_in;
 
 // What answers with a status alone.
 fn plain(head: &[u8; HEAD], kind: u64, table: &mut [u64], bodies: &[u8]) -> u16 {
-    let id = SetId((number(head, 2, 2) % 65536) as u16);
-    let count = (number(head, 4, 2) % 65536) as u16;
+    let id = SetId(set_in(head));
     if kind == 3 {
-        reads(table, id, count)
+        reads(table, id, count_in(head))
     } else if kind == 4 {
-        writes(table, id, count)
+        writes(table, id, count_in(head))
     } else if kind == 5 {
         excursion(table, id)
     } else if kind == 6 {
-        ticks(table, (number(head, 4, 4) % 4294967296) as u32)
+        ticks(table, time_in(head))
     } else {
         set_up(table, bodies)
     }

@@ -1,20 +1,14 @@
-// Takes calls of the card's functions on words from standard input, and writes what each answered and left. It has no case of
-// its own: rust/ makes the calls, and holds what is written to the model.
-//
-// A call is a head of 16 bytes, then the table's words, the answer buffer, the command and the data in. Head: 0 kind; 3:2 set;
-// 7:4 count or milliseconds; 9:8 words of the table; 11:10, 13:12, 15:14 bytes of the answer buffer, of the command and of the
-// data, which for set-up are the bodies. Kinds are those of a replay file, and 08h is a command that hands back its part.
-//
-// What is written: 1:0 status, 7:4 dword 0, 11:8 length of the data; for 08h the part itself; then every word of the table and
-// every byte of the answer buffer. All numbers are little-endian. A call that is cut, or too long for the room, ends the program.
+// Takes calls of the card's functions on words from standard input, and writes what each answered and left (`streams` says how).
+// It has no case of its own: rust/ makes the calls, and holds what is written to the model. A call that is cut, or too long for
+// the room below, ends the program.
 mod calls;
-mod streams;
 
 use calls::carry_out;
 use streams::HEAD;
-use streams::number;
+use streams::Sizes;
 use streams::part;
 use streams::part_mut;
+use streams::sizes_in;
 use streams::take;
 use streams::take_words;
 use streams::words_part;
@@ -29,23 +23,6 @@ const ANSWER: usize = 8192;
 const COMMAND: usize = 128;
 
 const DATA: usize = 20480;
-
-// How many words and bytes follow a head.
-struct Sizes {
-    table: usize,
-    answer: usize,
-    command: usize,
-    data: usize,
-}
-
-fn sizes_in(head: &[u8; HEAD]) -> Sizes {
-    Sizes {
-        table: number(head, 8, 2) as usize,
-        answer: number(head, 10, 2) as usize,
-        command: number(head, 12, 2) as usize,
-        data: number(head, 14, 2) as usize,
-    }
-}
 
 // Reads what follows a head; whether all came.
 fn take_all(
