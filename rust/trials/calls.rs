@@ -168,15 +168,28 @@ impl Entries {
     pub fn outcome(&self, call: &Call) -> Outcome {
         let mut regions = call.regions.clone();
         let Regions { table, command, data, answer, reply } = &mut regions;
-        let table = table.lend();
-        let status = match call.function {
-            Function::SetUp => (self.set_up)(table, data.content()),
-            Function::Command => (self.command)(table, command.content(), data.content(), answer.lend(), reply.lend()),
+        let status =
+            self.carry_out(call.function, table.lend(), [command.content(), data.content()], answer.lend(), reply.lend());
+        Outcome { status, regions }
+    }
+
+    /// Calls the function; the inputs are the command and the data.
+    pub fn carry_out(
+        &self,
+        function: Function,
+        table: &mut [u8],
+        inputs: [&[u8]; 2],
+        answer: &mut [u8],
+        reply: &mut [u8],
+    ) -> u16 {
+        let [command, data] = inputs;
+        match function {
+            Function::SetUp => (self.set_up)(table, data),
+            Function::Command => (self.command)(table, command, data, answer, reply),
             Function::Reads { set, count } => (self.reads)(table, set, count),
             Function::Writes { set, count } => (self.writes)(table, set, count),
             Function::Excursion { set } => (self.excursion)(table, set),
             Function::Tick { milliseconds } => (self.tick)(table, milliseconds),
-        };
-        Outcome { status, regions }
+        }
     }
 }

@@ -10,6 +10,7 @@ pub mod lending;
 pub mod random;
 pub mod samples;
 pub mod streams;
+pub mod swapping;
 
 /// Gives the cases and so many random items to one that takes calls. Ends the program with 1 where it does not do as it should.
 pub fn run(name: &str, taker: &mut dyn calls::Takes, seed: u64, items: u64) {

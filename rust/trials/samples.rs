@@ -103,6 +103,27 @@ pub fn item(random: &Random, sets: &[Set]) -> Item {
     }
 }
 
+/// An item that in most cases changes this set: it names it, or is the tick that it waits for.
+pub fn telling_item(random: &Random, set: &Set) -> Item {
+    let identifier = set.attributes.identifier;
+    let command = |fields: Fields| Item::Command { command: fields.command(random), data: configuration(random, set) };
+    if set.events != 0 && random.once_in(2) {
+        let mut fields = get_log_page(random, set, SET_PAGE, 512);
+        fields.dwords[0] &= !RETAIN;
+        return command(fields);
+    }
+    match set.window {
+        Window::N if !set.too_early_for_d() => command(select(random, set, Window::D as u32)),
+        Window::N if random.once_in(2) => Item::Tick { milliseconds: milliseconds(random, set) },
+        Window::D if !random.once_in(8) => match random.below(8) {
+            0 => Item::Excursion { set: identifier },
+            1..=4 => Item::Reads { set: identifier, count: event_count(random, set, Quantity::Reads) },
+            _ => Item::Writes { set: identifier, count: event_count(random, set, Quantity::Writes) },
+        },
+        _ => command(set_configuration(random, set)),
+    }
+}
+
 /// The call that hands an item to a card. A command is sometimes too long or too short, and so are its data and its buffers.
 pub fn call(random: &Random, item: Item, table: &[u8]) -> Call {
     let plain = |function: Function| Call::plain(random, function, table, &[]);
