@@ -65,17 +65,30 @@ struct Cases<'a> {
 
 /// Gives every case to one that takes calls and to the model. Answers whether each did what the case says.
 pub fn hold_cases(name: &str, taker: &mut dyn Takes, text: &str) -> bool {
+    let lines = whole_lines(text);
     let random = Random::new(0);
     let (attributes, data) = (BTreeMap::new(), BTreeMap::new());
     let mut cases = Cases { name, taker, random, attributes, data, sets: Vec::new(), table: Vec::new(), goes_on: false, done: 0 };
-    for (number, line) in text.lines().enumerate() {
+    for (number, line) in &lines {
         if let Err(why) = cases.line(line) {
-            println!("{} in line {} of the cases: {}", why, number + 1, line);
+            println!("{} in line {} of the cases: {}", why, number, line);
             return false;
         }
     }
     println!("{} does what {} calls of the cases say", name, cases.done);
     true
+}
+
+/// The lines with their numbers, each with those that go on with it.
+fn whole_lines(text: &str) -> Vec<(usize, String)> {
+    let mut lines: Vec<(usize, String)> = Vec::new();
+    for (place, line) in text.lines().enumerate() {
+        match lines.last_mut() {
+            Some((_, before)) if line.starts_with(' ') => before.push_str(line),
+            _ => lines.push((place + 1, line.to_string())),
+        }
+    }
+    lines
 }
 
 type Tried = Result<(), String>;
