@@ -3,8 +3,6 @@
 mod card_c;
 
 fn main() {
-    let (seed, items) = trials::holding::arguments(1, 1_000_000);
-    if !trials::holding::hold("card_c", &card_c::ENTRIES, seed, items) {
-        std::process::exit(1);
-    }
+    let (seed, items, _) = trials::holding::arguments(1, 1_000_000);
+    trials::run("card_c", &mut card_c::ENTRIES.clone(), seed, items);
 }

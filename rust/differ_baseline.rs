@@ -3,8 +3,6 @@
 mod baseline;
 
 fn main() {
-    let (seed, items) = trials::holding::arguments(1, 200_000);
-    if !trials::holding::hold("baseline", &baseline::ENTRIES, seed, items) {
-        std::process::exit(1);
-    }
+    let (seed, items, _) = trials::holding::arguments(1, 200_000);
+    trials::run("baseline", &mut baseline::ENTRIES.clone(), seed, items);
 }

@@ -17,12 +17,13 @@ need() { # PACKAGE..
         { tail -n 5 "$log" >&2; return 1; }
 }
 
+# What starts a program of target/bin, as words before its path.
+starter=("$kit/toolchain/lib/ld-linux-x86-64.so.2" --library-path "$kit/toolchain/lib")
+[ $native = yes ] || starter=("$kit/on/$(uname -m)/toolchain/bin/qemu-x86_64" "${starter[@]}")
+
 # A proved program of the repository, from target/bin.
 proved() { # NAME ARGS..
-    local program=$root/target/bin/$1 emulator=()
-    shift
-    [ $native = yes ] || emulator=("$kit/on/$(uname -m)/toolchain/bin/qemu-x86_64")
-    "${emulator[@]}" "$kit/toolchain/lib/ld-linux-x86-64.so.2" --library-path "$kit/toolchain/lib" "$program" "$@"
+    "${starter[@]}" "$root/target/bin/$1" "${@:2}"
 }
 
 # A C compiler for x86-64; its programs are linked statically, since a dynamic one does not start under the emulator.
@@ -44,7 +45,16 @@ x86_rustc() { # ARGS..
     fi
 }
 
-# A program made by one of the two above.
+# The same compiler for this machine, for what links nothing that Rattle made: an emulator would only slow it down.
+own_rustc() { # ARGS..
+    if [ $native = yes ]; then
+        rustc "$@"
+    else
+        need rustc && /usr/bin/rustc "$@"
+    fi
+}
+
+# A program for x86-64.
 x86() { # PROGRAM ARGS..
     if [ $native = yes ]; then
         "$@"

@@ -5,11 +5,39 @@ use crate::set::{Attributes, Configuration, Set, Window};
 /// "Up to 31 sets."
 pub const MAX_SETS: usize = 31;
 pub const WORD_BYTES: usize = 8;
-pub const ROW_WORDS: usize = 24;
-const HEADER_BYTES: usize = WORD_BYTES;
-const ROW_BYTES: usize = WORD_BYTES * ROW_WORDS;
+pub const ROW_WORDS: usize = field::LISTED + 1;
+pub const HEADER_BYTES: usize = WORD_BYTES;
+pub const ROW_BYTES: usize = WORD_BYTES * ROW_WORDS;
 /// "07h set attributes in the order above, 84".
 pub const BODY_BYTES: usize = 84;
+
+/// The place of each word in its row. A capacity has two, the lower first.
+pub mod field {
+    pub const IDENTIFIER: usize = 0;
+    pub const GROUP: usize = 1;
+    pub const RANDOM_READ: usize = 2;
+    pub const WRITE_SIZE: usize = 3;
+    pub const TOTAL: usize = 4;
+    pub const TOTAL_UPPER: usize = 5;
+    pub const UNALLOCATED: usize = 6;
+    pub const UNALLOCATED_UPPER: usize = 7;
+    pub const READS_TYPICAL: usize = 8;
+    pub const WRITES_TYPICAL: usize = 9;
+    pub const TIME_MAXIMUM: usize = 10;
+    pub const MINIMUM_HIGH: usize = 11;
+    pub const MINIMUM_LOW: usize = 12;
+    pub const ENEV: usize = 13;
+    pub const READS_THRESHOLD: usize = 14;
+    pub const WRITES_THRESHOLD: usize = 15;
+    pub const TIME_THRESHOLD: usize = 16;
+    pub const WINDOW: usize = 17;
+    pub const READS: usize = 18;
+    pub const WRITES: usize = 19;
+    pub const TIME: usize = 20;
+    pub const N_TIME: usize = 21;
+    pub const EVENTS: usize = 22;
+    pub const LISTED: usize = 23;
+}
 
 /// How many bytes the table of so many sets takes.
 pub const fn table_bytes(sets: usize) -> usize {
@@ -19,13 +47,13 @@ pub const fn table_bytes(sets: usize) -> usize {
 /// The sets of a legal table: "1 to 31 sets, identifiers strictly rising, statics in range; [...]". None where the table is not
 /// legal or its slice too short.
 pub fn read_table(table: &[u8]) -> Option<Vec<Set>> {
-    let sets = word(table.get(..HEADER_BYTES)?);
+    let sets = word_of(table.get(..HEADER_BYTES)?, 0);
     if !(1..=MAX_SETS as u64).contains(&sets) {
         return None;
     }
     let rows = table.get(HEADER_BYTES..table_bytes(sets as usize))?;
     let read: Vec<Set> = rows.chunks_exact(ROW_BYTES).map(read_row).collect::<Option<_>>()?;
-    Some(read).filter(|sets| is_rising(sets))
+    Some(read).filter(|sets| sets.iter().all(Set::is_legal) && is_rising(sets))
 }
 
 /// Writes header and rows; "words past it are neither read nor written".
@@ -65,35 +93,44 @@ pub fn little_endian(bytes: &[u8]) -> u128 {
     bytes.iter().rev().fold(0, |number, &byte| number << 8 | u128::from(byte))
 }
 
-fn word(bytes: &[u8]) -> u64 {
-    u64::from_le_bytes(bytes.try_into().expect("a word is cut to its length"))
+/// The word at a place, counted in words.
+pub fn word_of(bytes: &[u8], place: usize) -> u64 {
+    let word = &bytes[WORD_BYTES * place..WORD_BYTES * (place + 1)];
+    u64::from_le_bytes(word.try_into().expect("a word is cut to its length"))
 }
 
-/// The set of a row, if the row is legal. A word that is too large for its field has some of its "unused bits" set.
-fn read_row(bytes: &[u8]) -> Option<Set> {
-    let row = |place: usize| word(&bytes[WORD_BYTES * place..WORD_BYTES * (place + 1)]);
-    let set = Set {
+pub fn put_word(bytes: &mut [u8], place: usize, word: u64) {
+    bytes[WORD_BYTES * place..WORD_BYTES * (place + 1)].copy_from_slice(&word.to_le_bytes());
+}
+
+/// The set of a row, whether legal or not, if there is one: a word that is too large for its field has some of its "unused bits"
+/// set.
+pub fn read_row(bytes: &[u8]) -> Option<Set> {
+    let row = |field: usize| word_of(bytes, field);
+    Some(Set {
         attributes: Attributes {
-            identifier: row(0).try_into().ok()?,
-            group: row(1).try_into().ok()?,
-            random_read_typical: row(2).try_into().ok()?,
-            optimal_write_size: row(3).try_into().ok()?,
-            total: capacity(row(4), row(5)),
-            unallocated: capacity(row(6), row(7)),
-            reads_typical: row(8),
-            writes_typical: row(9),
-            time_maximum: row(10),
-            minimum_high: row(11),
-            minimum_low: row(12),
+            identifier: row(field::IDENTIFIER).try_into().ok()?,
+            group: row(field::GROUP).try_into().ok()?,
+            random_read_typical: row(field::RANDOM_READ).try_into().ok()?,
+            optimal_write_size: row(field::WRITE_SIZE).try_into().ok()?,
+            total: capacity(row(field::TOTAL), row(field::TOTAL_UPPER)),
+            unallocated: capacity(row(field::UNALLOCATED), row(field::UNALLOCATED_UPPER)),
+            reads_typical: row(field::READS_TYPICAL),
+            writes_typical: row(field::WRITES_TYPICAL),
+            time_maximum: row(field::TIME_MAXIMUM),
+            minimum_high: row(field::MINIMUM_HIGH),
+            minimum_low: row(field::MINIMUM_LOW),
         },
-        configuration: Configuration { enev: row(13).try_into().ok()?, thresholds: [row(14), row(15), row(16)] },
-        window: window(row(17))?,
-        charges: [row(18), row(19), row(20)],
-        n_time: row(21),
-        events: row(22).try_into().ok()?,
-        listed: mark(row(23))?,
-    };
-    Some(set).filter(Set::is_legal)
+        configuration: Configuration {
+            enev: row(field::ENEV).try_into().ok()?,
+            thresholds: [row(field::READS_THRESHOLD), row(field::WRITES_THRESHOLD), row(field::TIME_THRESHOLD)],
+        },
+        window: window(row(field::WINDOW))?,
+        charges: [row(field::READS), row(field::WRITES), row(field::TIME)],
+        n_time: row(field::N_TIME),
+        events: row(field::EVENTS).try_into().ok()?,
+        listed: mark(row(field::LISTED))?,
+    })
 }
 
 fn row_of(set: &Set) -> [u64; ROW_WORDS] {

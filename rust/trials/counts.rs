@@ -1,6 +1,7 @@
 //! What a run of trials has met, so that it cannot pass idly.
 
-use crate::holding::{Call, Trial};
+use crate::calls::{Call, Function, Outcome};
+use crate::holding::Trial;
 use model::commands::CONFIGURATION;
 use model::set::{Quantity, Set, Window};
 use model::status;
@@ -58,13 +59,13 @@ impl Counts {
     }
 
     /// Counts what the model made of a trial: its status, its data, and whether a damaged table was refused.
-    pub fn outcome(&mut self, trial: &Trial, number: u16, gave_data: bool) {
-        *self.statuses.entry(number).or_insert(0) += 1;
-        if gave_data {
+    pub fn outcome(&mut self, trial: &Trial, outcome: &Outcome) {
+        *self.statuses.entry(outcome.status).or_insert(0) += 1;
+        if outcome.regions.answer != trial.call.regions.answer {
             self.branch("data given");
         }
         if trial.is_damaged {
-            let refused = number == status::BAD_TABLE;
+            let refused = outcome.status == status::BAD_TABLE;
             self.branch(if refused { "damaged table refused" } else { "damaged table still legal" });
         }
     }
@@ -96,15 +97,17 @@ impl Counts {
     }
 
     fn window(&mut self, call: &Call, before: &Set, after: &Set) {
-        match call {
-            Call::SetUp => (),
-            Call::Command { fid, set } if *set == before.attributes.identifier => self.feature(*fid, before, after),
-            Call::Command { .. } => (),
-            Call::Reads { .. } => self.charged(before, after, Quantity::Reads, "D to N by reads"),
-            Call::Writes { .. } => self.charged(before, after, Quantity::Writes, "D to N by writes"),
-            Call::Excursion { .. } if before.window != after.window => self.branch("D to N by excursion"),
-            Call::Excursion { .. } => (),
-            Call::Tick { .. } => self.ticked(before, after),
+        match call.function {
+            Function::SetUp => (),
+            Function::Command => match call.set_features() {
+                Some((fid, set)) if set == before.attributes.identifier => self.feature(fid, before, after),
+                _ => (),
+            },
+            Function::Reads { .. } => self.charged(before, after, Quantity::Reads, "D to N by reads"),
+            Function::Writes { .. } => self.charged(before, after, Quantity::Writes, "D to N by writes"),
+            Function::Excursion { .. } if before.window != after.window => self.branch("D to N by excursion"),
+            Function::Excursion { .. } => (),
+            Function::Tick { .. } => self.ticked(before, after),
         }
     }
 

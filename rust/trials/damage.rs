@@ -1,9 +1,8 @@
 //! Spoiled tables and bodies. Some of what comes out is still legal, as it should be: both sides of each bound are wanted.
 
 use crate::random::Random;
-use model::layout::{little_endian, BODY_BYTES, MAX_SETS, ROW_WORDS, WORD_BYTES};
-
-const ROW_BYTES: usize = WORD_BYTES * ROW_WORDS;
+use model::layout::field::*;
+use model::layout::{put_word, word_of, BODY_BYTES, HEADER_BYTES, MAX_SETS, ROW_BYTES, ROW_WORDS, WORD_BYTES};
 
 /// The bounds of the fields, and their neighbours.
 const LIMITS: [u64; 22] = [
@@ -59,38 +58,40 @@ fn spoil_header(random: &Random, table: &mut [u8]) {
 /// Adds the last row again, with a higher identifier: of 31 sets that is one too many, and else legal.
 fn add_row(random: &Random, table: &mut Vec<u8>) {
     let last = table.len() - ROW_BYTES;
-    let sets = word(table, 0);
-    let identifier = word(&table[last..], 0) + random.between(0, 2);
+    let sets = word_of(table, 0);
+    let identifier = word_of(&table[last..], IDENTIFIER) + random.between(0, 2);
     table.extend_from_within(last..);
-    put_word(table, 1 + ROW_WORDS * sets as usize, identifier);
+    put_word(&mut table[last + ROW_BYTES..], IDENTIFIER, identifier);
     put_word(table, 0, sets + 1);
 }
 
 /// The largest legal value of a word of a row, or the word that bounds it.
 fn bound(row: &[u8], field: usize) -> u64 {
     match field {
-        0 | 1 => 0xFFFF,
-        2 | 3 | 8 | 9 => 0xFFFF_FFFF,
-        // Unallocated by total; minimum low by high; charges and N time by their limits.
-        6 | 7 => word(row, field - 2),
-        12 => word(row, 11),
-        18..=21 => word(row, field - 10),
-        10 | 11 => 86_400_000,
-        13 | 22 => 0xC007,
-        17 => 2,
-        23 => 1,
+        IDENTIFIER | GROUP => 0xFFFF,
+        RANDOM_READ | WRITE_SIZE | READS_TYPICAL | WRITES_TYPICAL => 0xFFFF_FFFF,
+        UNALLOCATED => word_of(row, TOTAL),
+        UNALLOCATED_UPPER => word_of(row, TOTAL_UPPER),
+        TIME_MAXIMUM | MINIMUM_HIGH => 86_400_000,
+        MINIMUM_LOW | N_TIME => word_of(row, MINIMUM_HIGH),
+        READS => word_of(row, READS_TYPICAL),
+        WRITES => word_of(row, WRITES_TYPICAL),
+        TIME => word_of(row, TIME_MAXIMUM),
+        WINDOW => 2,
+        ENEV | EVENTS => 0xC007,
+        LISTED => 1,
         _ => u64::MAX,
     }
 }
 
 /// Puts another word into one place of one row.
 fn spoil_row_word(random: &Random, table: &mut [u8]) {
-    let start = WORD_BYTES + ROW_BYTES * random.place(table.len() / ROW_BYTES);
+    let start = HEADER_BYTES + ROW_BYTES * random.place(table.len() / ROW_BYTES);
     let row = &mut table[start..start + ROW_BYTES];
     let field = random.place(ROW_WORDS);
-    let old = word(row, field);
+    let old = word_of(row, field);
     let bound = bound(row, field);
-    let neighbour = word(row, random.place(ROW_WORDS));
+    let neighbour = word_of(row, random.place(ROW_WORDS));
     let new = match random.below(10) {
         0..=1 => random.pick(&LIMITS),
         2..=3 => random.pick(&[0, bound, bound.wrapping_add(1)]),
@@ -117,7 +118,7 @@ fn repeat_row(random: &Random, table: &mut [u8]) {
 
 fn two_rows(random: &Random, table: &[u8]) -> (usize, usize) {
     let rows = table.len() / ROW_BYTES;
-    let row = || WORD_BYTES + ROW_BYTES * random.place(rows);
+    let row = || HEADER_BYTES + ROW_BYTES * random.place(rows);
     (row(), row())
 }
 
@@ -208,12 +209,4 @@ fn spoil_attribute(random: &Random, bodies: &mut [u8]) {
             field.copy_from_slice(&number[..length]);
         }
     }
-}
-
-fn word(words: &[u8], place: usize) -> u64 {
-    little_endian(&words[WORD_BYTES * place..WORD_BYTES * (place + 1)]) as u64
-}
-
-fn put_word(words: &mut [u8], place: usize, word: u64) {
-    words[WORD_BYTES * place..WORD_BYTES * (place + 1)].copy_from_slice(&word.to_le_bytes());
 }

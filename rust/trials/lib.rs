@@ -1,8 +1,20 @@
-//! Random trials that hold an implementation of include/card.h's functions to the model.
+//! Trials that hold an implementation of the card's functions to the model: cases with a name, and random ones.
 
+pub mod calls;
+pub mod cases;
 pub mod counts;
 pub mod damage;
 pub mod entries;
 pub mod holding;
+pub mod lending;
 pub mod random;
 pub mod samples;
+pub mod streams;
+pub mod swapping;
+
+/// Gives the cases and so many random items to one that takes calls. Ends the program with 1 where it does not do as it should.
+pub fn run(name: &str, taker: &mut dyn calls::Takes, seed: u64, items: u64) {
+    if !(cases::hold_cases(name, taker, cases::CASES) && holding::hold(name, taker, seed, items)) {
+        std::process::exit(1);
+    }
+}

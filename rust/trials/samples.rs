@@ -1,12 +1,14 @@
 //! Random cards and items. Numbers are small and chosen near the set's limits, so that thresholds, typicals, maximums and recovery
 //! times are met and crossed often.
 
+use crate::calls::{Call, Function, Regions};
 use crate::random::Random;
 use model::commands::{
     COMMAND_BYTES, CONFIGURATION, GET_FEATURES, GET_LOG_PAGE, IDENTIFY, LIST_PAGE, SET_FEATURES, SET_LIST, SET_PAGE, WINDOW,
 };
-use model::layout::{BODY_BYTES, MAX_SETS};
+use model::layout::{table_bytes, BODY_BYTES, MAX_SETS};
 use model::set::{Quantity, Set, Window, DAY};
+use model::status;
 
 const OPCODES: [u8; 4] = [GET_LOG_PAGE, IDENTIFY, SET_FEATURES, GET_FEATURES];
 const SAVE: u32 = 1 << 31;
@@ -38,6 +40,14 @@ pub fn bodies(random: &Random) -> Vec<u8> {
         bodies.extend(body(random, identifier as u16));
     }
     bodies
+}
+
+/// A card just set up.
+pub fn table(random: &Random) -> Vec<u8> {
+    let bodies = bodies(random);
+    let mut table = vec![0; table_bytes(bodies.len() / BODY_BYTES)];
+    assert_eq!(model::set_up(&mut table, &bodies), status::SUCCESS);
+    table
 }
 
 /// A good body.
@@ -90,6 +100,65 @@ pub fn item(random: &Random, sets: &[Set]) -> Item {
         16 => Item::Excursion { set: event_set(random, set) },
         17..=21 => Item::Tick { milliseconds: milliseconds(random, set) },
         _ => command_item(random, sets),
+    }
+}
+
+/// An item that in most cases changes this set: it names it, or is the tick that it waits for.
+pub fn telling_item(random: &Random, set: &Set) -> Item {
+    let identifier = set.attributes.identifier;
+    let command = |fields: Fields| Item::Command { command: fields.command(random), data: configuration(random, set) };
+    if set.events != 0 && random.once_in(2) {
+        let mut fields = get_log_page(random, set, SET_PAGE, 512);
+        fields.dwords[0] &= !RETAIN;
+        return command(fields);
+    }
+    match set.window {
+        Window::N if !set.too_early_for_d() => command(select(random, set, Window::D as u32)),
+        Window::N if random.once_in(2) => Item::Tick { milliseconds: milliseconds(random, set) },
+        Window::D if !random.once_in(8) => match random.below(8) {
+            0 => Item::Excursion { set: identifier },
+            1..=4 => Item::Reads { set: identifier, count: event_count(random, set, Quantity::Reads) },
+            _ => Item::Writes { set: identifier, count: event_count(random, set, Quantity::Writes) },
+        },
+        _ => command(set_configuration(random, set)),
+    }
+}
+
+/// The call that hands an item to a card. A command is sometimes too long or too short, and so are its data and its buffers.
+pub fn call(random: &Random, item: Item, table: &[u8]) -> Call {
+    let plain = |function: Function| Call::plain(random, function, table, &[]);
+    match item {
+        Item::Command { command, data } => command_call(random, command, data, table),
+        Item::Reads { set, count } => plain(Function::Reads { set, count }),
+        Item::Writes { set, count } => plain(Function::Writes { set, count }),
+        Item::Excursion { set } => plain(Function::Excursion { set }),
+        Item::Tick { milliseconds } => plain(Function::Tick { milliseconds }),
+    }
+}
+
+fn command_call(random: &Random, mut command: Vec<u8>, mut data: Vec<u8>, table: &[u8]) -> Call {
+    if random.once_in(24) {
+        let length = random.pick(&[COMMAND_BYTES - 1, COMMAND_BYTES + 1, random.place(81)]);
+        command.resize(length, 0);
+    }
+    if random.once_in(10) {
+        let length = random.pick(&[0, 511, 513, random.place(601)]);
+        data.resize(length, 0x5A);
+    }
+    let answer = random.bytes(answer_bytes(random, &command));
+    let reply = random.bytes(if random.once_in(4) { random.place(25) } else { 16 });
+    Call { function: Function::Command, regions: Regions::new(random, table, [&command, &data, &answer, &reply]) }
+}
+
+/// The length of an answer buffer, often just what a log read of this command needs, or one less.
+fn answer_bytes(random: &Random, command: &[u8]) -> usize {
+    let asked = command.get(42..44).map_or(0, |count| 4 * (usize::from(count[0]) + 1 + 256 * usize::from(count[1] & 3)));
+    match random.below(12) {
+        0..=5 => 4096,
+        6..=7 => asked,
+        8 => asked.saturating_sub(1),
+        9 => random.pick(&[0, 71, 72, 511, 512, 513, 4095, 4097]),
+        _ => random.place(4201),
     }
 }
 

@@ -1,0 +1,70 @@
+// One call, and what it answered.
+use card::answering::command;
+use card::answering::command_part;
+use card::media::excursion;
+use card::media::reads;
+use card::media::ticks;
+use card::media::writes;
+use card::setting::set_up;
+use record::SetId;
+use streams::HEAD;
+use streams::count_in;
+use streams::give;
+use streams::give_reply;
+use streams::give_words;
+use streams::number;
+use streams::set_in;
+use streams::time_in;
+
+// What answers with a status alone.
+fn plain(head: &[u8; HEAD], kind: u64, table: &mut [u64], bodies: &[u8]) -> u16 {
+    let id = SetId(set_in(head));
+    if kind == 3 {
+        reads(table, id, count_in(head))
+    } else if kind == 4 {
+        writes(table, id, count_in(head))
+    } else if kind == 5 {
+        excursion(table, id)
+    } else if kind == 6 {
+        ticks(table, time_in(head))
+    } else {
+        set_up(table, bodies)
+    }
+}
+
+fn answer_whole(table: &mut [u64], bytes: &[u8], given: &[u8], answer: &mut [u8]) {
+    let r = command(table, bytes, given, answer);
+    give_reply(r.status, r.dword, r.len);
+}
+
+fn answer_part(table: &mut [u64], bytes: &[u8], given: &[u8], answer: &mut [u8]) {
+    let mut status = 0;
+    let mut dword = 0;
+    let written = command_part(table, bytes, given, answer, &mut status, &mut dword);
+    give_reply(status, dword, written.len());
+    give(written);
+}
+
+fn answer_by(head: &[u8; HEAD], table: &mut [u64], bytes: &[u8], given: &[u8], answer: &mut [u8]) {
+    let kind = number(head, 0, 1);
+    if kind == 1 {
+        answer_whole(table, bytes, given, answer);
+    } else if kind == 8 {
+        answer_part(table, bytes, given, answer);
+    } else {
+        give_reply(plain(head, kind, table, given), 0, 0);
+    }
+}
+
+pub fn carry_out(
+    head: &[u8; HEAD],
+    table: &mut [u64],
+    bytes: &[u8],
+    given: &[u8],
+    answer: &mut [u8],
+    buf: &mut [u8],
+) {
+    answer_by(head, table, bytes, given, answer);
+    give_words(table, buf);
+    give(answer);
+}

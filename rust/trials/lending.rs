@@ -1,0 +1,146 @@
+//! Random calls of the two functions over references: set-up from a list of three sets, and events of one lent record.
+
+use crate::calls::{Call, Function, Outcome, Takes};
+use crate::damage::{damage_bodies, damage_table};
+use crate::entries::MODEL;
+use crate::holding::first_difference;
+use crate::random::Random;
+use crate::samples::{self, Item};
+use model::layout::field::{IDENTIFIER, LISTED, WINDOW};
+use model::layout::{read_row, read_table, table_bytes, word_of, BODY_BYTES, HEADER_BYTES};
+use model::set::{Set, EVENT_MASK};
+use model::status;
+use std::collections::BTreeMap;
+
+const LIST: usize = 3;
+const BATCH: u64 = 100;
+
+/// What must be met, each in one call of a thousand.
+const MET: [&str; 8] = [
+    "set-up 0000",
+    "set-up 07C2",
+    "set-up 07C4",
+    "event 0000",
+    "event 07C3",
+    "event that changes the record",
+    "event that lists its set",
+    "event that drives its set out of D",
+];
+
+/// Gives so many calls to one that takes them and to the model. Answers whether both agreed and enough was met.
+pub fn hold_lending(name: &str, taker: &mut dyn Takes, seed: u64, calls: u64) -> bool {
+    println!("{} held to the model: seed {}, {} calls", name, seed, calls);
+    let random = Random::new(seed);
+    let mut counts: BTreeMap<&str, u64> = MET.iter().map(|&met| (met, 0)).collect();
+    let mut table = new_card(&random);
+    for done in (0..calls).step_by(BATCH as usize) {
+        let batch: Vec<Call> = (0..BATCH).map(|_| next_call(&random, &mut table)).collect();
+        let outcomes: Vec<Outcome> = batch.iter().map(|call| MODEL.outcome(call)).collect();
+        for met in batch.iter().zip(&outcomes).flat_map(|(call, outcome)| met_by(call, outcome)) {
+            *counts.get_mut(met).expect("the name is in the list") += 1;
+        }
+        if let Some(place) = first_difference(name, taker, &batch, &outcomes) {
+            println!("at call {} of seed {}", done + place as u64, seed);
+            return false;
+        }
+    }
+    for (met, count) in &counts {
+        println!("{:>9}  {}", count, met);
+    }
+    let enough = counts.values().all(|&count| count >= calls / 1_000);
+    println!("{}", if enough { "no difference" } else { "no difference, but some count is under the floor" });
+    enough
+}
+
+/// A card of one set.
+fn new_card(random: &Random) -> Vec<u8> {
+    let mut table = vec![0; table_bytes(1)];
+    assert_eq!(model::set_up(&mut table, &samples::body(random, random.between(1, 65_535) as u16)), status::SUCCESS);
+    table
+}
+
+fn next_call(random: &Random, table: &mut Vec<u8>) -> Call {
+    if random.once_in(3) {
+        return set_up(random);
+    }
+    if random.once_in(200) {
+        *table = new_card(random);
+    }
+    loop {
+        let sets = read_table(table).expect("the model leaves a legal table");
+        let item = samples::item(random, &sets);
+        if matches!(item, Item::Reads { .. } | Item::Writes { .. } | Item::Excursion { .. }) {
+            let lent = if random.once_in(4) { damaged(random, table) } else { table.clone() };
+            let call = event(random, item, &lent);
+            if *table == lent {
+                *table = MODEL.outcome(&call).regions.table.content().to_vec();
+            }
+            return call;
+        }
+        // Commands and ticks only bring the set into other windows.
+        *table = MODEL.outcome(&samples::call(random, item, table)).regions.table.content().to_vec();
+    }
+}
+
+/// A lent record has no name but its own.
+fn event(random: &Random, item: Item, table: &[u8]) -> Call {
+    let set = word_of(&table[HEADER_BYTES..], IDENTIFIER) as u16;
+    let function = match item {
+        Item::Reads { count, .. } => Function::Reads { set, count },
+        Item::Writes { count, .. } => Function::Writes { set, count },
+        _ => Function::Excursion { set },
+    };
+    Call::plain(random, function, table, &[])
+}
+
+/// Damage that a record can hold: it has no unused bits.
+fn damaged(random: &Random, table: &[u8]) -> Vec<u8> {
+    loop {
+        let mut spoiled = table.to_vec();
+        damage_table(random, &mut spoiled);
+        let is_whole = spoiled.len() == table.len() && spoiled[..HEADER_BYTES] == table[..HEADER_BYTES];
+        if is_whole && read_row(&spoiled[HEADER_BYTES..]).map_or(false, |set| has_known_bits(&set)) {
+            return spoiled;
+        }
+    }
+}
+
+fn has_known_bits(set: &Set) -> bool {
+    (set.configuration.enev | set.events) & !EVENT_MASK == 0
+}
+
+fn set_up(random: &Random) -> Call {
+    let needed = table_bytes(LIST);
+    let length = random.pick(&[needed, needed, needed + 8 * random.place(40), random.place(needed)]);
+    let bodies = loop {
+        let mut bodies = samples::bodies(random);
+        bodies.truncate(LIST * BODY_BYTES);
+        if random.once_in(2) {
+            damage_bodies(random, &mut bodies);
+        }
+        if bodies.len() == LIST * BODY_BYTES {
+            break bodies;
+        }
+    };
+    Call::plain(random, Function::SetUp, &random.bytes(length), &bodies)
+}
+
+fn met_by(call: &Call, outcome: &Outcome) -> Vec<&'static str> {
+    let word = |table: &[u8], field: usize| word_of(&table[HEADER_BYTES..], field);
+    let (before, after) = (call.regions.table.content(), outcome.regions.table.content());
+    match (call.function, outcome.status) {
+        (Function::SetUp, status::SUCCESS) => vec!["set-up 0000"],
+        (Function::SetUp, status::TOO_SHORT) => vec!["set-up 07C2"],
+        (Function::SetUp, _) => vec!["set-up 07C4"],
+        (_, status::SUCCESS) => {
+            let effects = [
+                ("event 0000", true),
+                ("event that changes the record", before != after),
+                ("event that lists its set", word(before, LISTED) < word(after, LISTED)),
+                ("event that drives its set out of D", word(before, WINDOW) != word(after, WINDOW)),
+            ];
+            effects.iter().filter(|(_, met)| *met).map(|&(name, _)| name).collect()
+        }
+        _ => vec!["event 07C3"],
+    }
+}

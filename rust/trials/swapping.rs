@@ -1,0 +1,189 @@
+//! Items that name different sets may change places, and a set's record and answers are those of that set alone: a random history
+//! is played in order, with such neighbours exchanged, and once more for each set on a card of its own.
+
+use crate::calls::{Call, Function};
+use crate::entries::Entries;
+use crate::random::Random;
+use crate::samples;
+use model::layout::field::{IDENTIFIER, LISTED};
+use model::layout::{put_word, read_table, word_of, HEADER_BYTES, MAX_SETS, ROW_BYTES};
+
+/// How many items a card lives through.
+const HISTORY: u64 = 200;
+/// Of a reply only bytes 7:0 are an item's own answer.
+const OWN_BYTES: usize = 8;
+
+/// What an item answered.
+#[derive(PartialEq, Eq)]
+struct Answer {
+    status: u16,
+    data: Vec<u8>,
+    reply: Vec<u8>,
+}
+
+/// Carries out an item on a table; the call has none of its own.
+fn play(entries: &Entries, item: &Call, table: &mut [u8]) -> Answer {
+    let regions = &item.regions;
+    let (mut data, mut reply) = (regions.answer.content().to_vec(), regions.reply.content().to_vec());
+    let inputs = [regions.command.content(), regions.data.content()];
+    let status = entries.carry_out(item.function, table, inputs, &mut data, &mut reply);
+    reply.truncate(OWN_BYTES);
+    Answer { status, data, reply }
+}
+
+fn rows(table: &[u8]) -> impl Iterator<Item = &[u8]> {
+    table[HEADER_BYTES..].chunks_exact(ROW_BYTES)
+}
+
+fn listed(table: &[u8]) -> u64 {
+    rows(table).map(|row| word_of(row, LISTED)).sum()
+}
+
+/// One card in three forms: its items in order, neighbours exchanged, and each set on a card of its own.
+struct History<'a> {
+    entries: &'a Entries,
+    whole: Vec<u8>,
+    exchanged: Vec<u8>,
+    alone: Vec<(u16, Vec<u8>)>,
+}
+
+impl History<'_> {
+    /// The sets start with the records that they have.
+    fn new(entries: &Entries, table: Vec<u8>) -> History {
+        let own_card = |row: &[u8]| {
+            let mut own = vec![0; HEADER_BYTES];
+            put_word(&mut own, 0, 1);
+            own.extend_from_slice(row);
+            (word_of(row, IDENTIFIER) as u16, own)
+        };
+        History { entries, exchanged: table.clone(), alone: rows(&table).map(own_card).collect(), whole: table }
+    }
+
+    /// Plays an item on the whole card, and on the cards of the sets that it may reach: the one it names, or with a tick all. An
+    /// item that names a set is answered there as it is on the whole card.
+    fn play(&mut self, item: &Call) -> Result<Answer, String> {
+        let answer = play(self.entries, item, &mut self.whole);
+        let named = item.set_named();
+        let is_tick = matches!(item.function, Function::Tick { .. });
+        for (_, own) in self.alone.iter_mut().filter(|(set, _)| is_tick || named == Some(*set)) {
+            if play(self.entries, item, own) != answer {
+                return Err("a set alone answers something else".into());
+            }
+        }
+        if rows(&self.whole).zip(&self.alone).any(|(row, (_, own))| row != &own[HEADER_BYTES..]) {
+            return Err("a set alone has another record".into());
+        }
+        Ok(answer)
+    }
+
+    /// Plays two items that name different sets, in order and exchanged.
+    fn play_pair(&mut self, items: [&Call; 2], met: &mut Met) -> Result<(), String> {
+        let before = self.whole.clone();
+        let first = self.play(items[0])?;
+        let between = self.whole.clone();
+        let second = self.play(items[1])?;
+        met.changing += u64::from(before != between && between != self.whole);
+        met.listing += u64::from(listed(&before) < listed(&between) || listed(&between) < listed(&self.whole));
+        let (entries, exchanged) = (self.entries, &mut self.exchanged);
+        if play(entries, items[1], exchanged) != second || play(entries, items[0], exchanged) != first {
+            return Err("exchanged, an item answers something else".into());
+        }
+        self.same_table()
+    }
+
+    /// Plays an item at its place in both orders.
+    fn play_single(&mut self, item: &Call) -> Result<(), String> {
+        let answer = self.play(item)?;
+        if play(self.entries, item, &mut self.exchanged) != answer {
+            return Err("after an exchange, an item answers something else".into());
+        }
+        self.same_table()
+    }
+
+    fn same_table(&self) -> Result<(), String> {
+        if self.whole == self.exchanged {
+            Ok(())
+        } else {
+            Err("exchanged, two items leave another table".into())
+        }
+    }
+}
+
+/// What was met.
+#[derive(Default)]
+struct Met {
+    items: u64,
+    pairs: u64,
+    /// Pairs of which both items change the table.
+    changing: u64,
+    /// Pairs of which one lists a set.
+    listing: u64,
+}
+
+impl Met {
+    fn print(&self) {
+        println!("{:>9}  items", self.items);
+        println!("{:>9}  pairs exchanged", self.pairs);
+        println!("{:>9}  of which both items change the table", self.changing);
+        println!("{:>9}  of which one lists a set", self.listing);
+    }
+}
+
+/// Plays histories of at least so many items. Answers whether the order made no difference, and enough of the pairs did something:
+/// for each ten items one pair of which both change the table, and for each hundred one that lists a set.
+pub fn hold_swapping(name: &str, entries: &Entries, seed: u64, items: u64) -> bool {
+    println!("{}: neighbours exchanged, and each set alone: seed {}, {} items", name, seed, items);
+    let random = Random::new(seed);
+    let mut met = Met::default();
+    while met.items < items {
+        let mut history = History::new(entries, new_table(&random));
+        let end = met.items + HISTORY;
+        while met.items < end {
+            if let Err(why) = step(&random, &mut history, &mut met) {
+                println!("DIFFERENCE at item {} of seed {}: {}", met.items, seed, why);
+                return false;
+            }
+        }
+    }
+    met.print();
+    let enough = met.changing >= items / 10 && met.listing >= items / 100;
+    println!("{}", if enough { "no difference" } else { "no difference, but some count is under the floor" });
+    enough
+}
+
+/// A card of two sets at least, and mostly of few: those are quicker.
+fn new_table(random: &Random) -> Vec<u8> {
+    let most = if random.once_in(8) { MAX_SETS } else { 4 };
+    loop {
+        let table = samples::table(random);
+        if (2..=most).contains(&rows(&table).count()) {
+            return table;
+        }
+    }
+}
+
+/// An item that names a set with one that names another, or else the item by itself.
+fn step(random: &Random, history: &mut History, met: &mut Met) -> Result<(), String> {
+    let sets = read_table(&history.whole).ok_or("the table is not legal any more")?;
+    let (one, other) = (random.place(sets.len()), random.place(sets.len()));
+    let next = |slot: usize| {
+        let any = random.once_in(3);
+        let item = if any { samples::item(random, &sets) } else { samples::telling_item(random, &sets[slot]) };
+        samples::call(random, item, &[])
+    };
+    let first = next(one);
+    met.items += 1;
+    let second = first.set_named().map(|_| next(other)).filter(|second| second.set_named().is_some());
+    match second {
+        Some(second) if first.set_named() != second.set_named() => {
+            met.items += 1;
+            met.pairs += 1;
+            history.play_pair([&first, &second], met).map_err(|why| {
+                first.print(&[]);
+                second.print(&[]);
+                why
+            })
+        }
+        _ => history.play_single(&first),
+    }
+}
