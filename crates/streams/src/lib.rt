@@ -90,13 +90,13 @@ pub fn take(buf: &mut [u8], n: usize) -> bool {
 
 fn from_bytes(bytes: &[u8], words: &mut [u64]) {
     if words.len() <= bytes.len() / 8 {
-        words_in(bytes, words);
+        words_in(bytes, 0, words);
     }
 }
 
 fn to_bytes(words: &[u64], bytes: &mut [u8]) {
     if words.len() <= bytes.len() / 8 {
-        words_out(words, bytes);
+        words_out(words, bytes, 0);
     }
 }
 
