@@ -7,7 +7,7 @@ use Rattle.steps.specs.Items.{Item}
 use Rattle.steps.specs.Words.{Result, stepWords}
 use Rattle.steps.specs.SetUp.{setUp}
 use Rattle.steps.proofs.OnWords.{refused-words}
-use Rattle.steps.proofs.Exact.{exactly-words, set-up-refused, set-up-exactly}
+use Rattle.steps.proofs.Exact.{answers-words, set-up-refused, set-up-answers}
 use Rattle.region.specs.Region.{tableIn, tableOut}
 use Rattle.region.proofs.Words.{own-region}
 use Rattle.card_c.specs.Entries.{EventAtC, SetUpAtC, CommandAtC}
@@ -16,19 +16,19 @@ use Rattle.card_c.specs.Demands.{RefusedEvent, RefusedSetUp, RefusedComm
 pub refused-event : RefusedEvent
 refused-event region i after number each e n =
     let ws = tableIn region in
-    let d = refused-words ws i (λ z. n (e .status ∙ exactly-words ws i ∙ z)) in
+    let d = refused-words ws i (λ z. n (e .status ∙ answers-words ws i ∙ z)) in
     e .table ∙ ap (λ (x : Result). tableOut region (x .table)) d ∙ own-region region each
 
 pub refused-set-up : RefusedSetUp
 refused-set-up bodies region after number each e n =
     let ws = tableIn region in
-    let d = set-up-refused bodies ws (λ z. n (e .status ∙ set-up-exactly bodies ws ∙ z)) in
+    let d = set-up-refused bodies ws (λ z. n (e .status ∙ set-up-answers bodies ws ∙ z)) in
     e .table ∙ ap (λ (x : Result). tableOut region (x .table)) d ∙ own-region region each
 
 pub refused-command : RefusedCommand
 refused-command region i before reply₀ number after buffer said each e n =
     let ws = tableIn region in
-    let d = refused-words ws i (λ z. n (e .status ∙ exactly-words ws i ∙ z)) in (
+    let d = refused-words ws i (λ z. n (e .status ∙ answers-words ws i ∙ z)) in (
       e .table ∙ ap (λ (x : Result). tableOut region (x .table)) d ∙ own-region region each,
       rw d at (e .answer),
       rw d at (e .reply),

@@ -1,1 +1,2 @@
 pub mod Stacked
+pub mod Passed

@@ -1,5 +1,5 @@
--- 01, "Status numbers .. checked in this order": the rows from "command not of 64 bytes" on, for every command.
--- Each row applies where its field exists.
+-- 01, "Status numbers .. checked in this order": a row each from "command not of 64 bytes" on, for every command; `commandRows` of
+-- crates/steps/specs/Rows.antt has all eleven under each other. Each row applies where its field exists.
 use mathlib.Core.Bool.{Bool, true, false, not, _&&_, _||_}
 use mathlib.Core.List.{List, [], _∷_}
 use Prim.Native.Nat.{ℕ, _%_}
@@ -39,17 +39,34 @@ pageListed c = eqb (chosen c) latencyPageNo || eqb (chosen c) aggregatePageNo
 abbrev pub partWrong : Command → Bool
 partWrong c = not (eqb (offset c % dwordSize) 0) || ltb (logSize (kindOf c)) (offset c) || ltb dwordsMaximum (dwords c)
 
--- the rows before the set is looked up: "command not of 64 bytes", "opcode not listed", "FID or CNS not listed", "log page not listed",
--- "Set Features with Save", "Select not 0; offset .."
+-- ---- the rows before the set is looked up
+
+-- "command not of 64 bytes"
+abbrev pub lengthRow : Command → Line
+lengthRow c = line (not (c .whole)) badCommandLength
+
+-- "opcode not listed"
+abbrev pub opcodeRow : Command → Line
+opcodeRow c = line (not (opcodeListed c)) invalidOpcode
+
+-- "FID or CNS not listed"
+abbrev pub choiceRow : Command → Line
+choiceRow c = line ((isSet c || isGet c) && not (fidListed c) || isIdentify c && not (cnsListed c)) invalidField
+
+-- "log page not listed"
+abbrev pub pageRow : Command → Line
+pageRow c = line (isLog c && not (pageListed c)) invalidLogPage
+
+-- "Set Features with Save"
+abbrev pub saveRow : Command → Line
+saveRow c = line (isSet c && save c) notSaveable
+
+-- "Select not 0; offset not a multiple of 4 or greater than page size; over 1,024 dwords"
+abbrev pub partRow : Command → Line
+partRow c = line (isGet c && not (eqb (select c) 0) || isLog c && partWrong c) invalidField
+
 abbrev pub earlyLines : Command → List Line
-earlyLines c =
-    line (not (c .whole)) badCommandLength
-    ∷ line (not (opcodeListed c)) invalidOpcode
-    ∷ line ((isSet c || isGet c) && not (fidListed c) || isIdentify c && not (cnsListed c)) invalidField
-    ∷ line (isLog c && not (pageListed c)) invalidLogPage
-    ∷ line (isSet c && save c) notSaveable
-    ∷ line (isGet c && not (eqb (select c) 0) || isLog c && partWrong c) invalidField
-    ∷ []
+earlyLines c = lengthRow c ∷ opcodeRow c ∷ choiceRow c ∷ pageRow c ∷ saveRow c ∷ partRow c ∷ []
 
 -- "set not in the table (commands)"
 abbrev pub unknownNumber : ℕ
@@ -85,11 +102,14 @@ windowWrong k c s = about14 k && isOff s || stores14 k && not (eqb (windowValue 
 abbrev pub shortLine : Kind → Command → ℕ → ℕ → Line
 shortLine k c given room = line (ltb given (needsIn k) || ltb room (needsOut k c)) tooShort
 
--- the rows after it: "14h while off; window not 1 or 2 (Set)", "data in or answer buffer shorter than needed",
 -- "select D from N too early"
+abbrev pub selectsEarly : Kind → Command → Attributes → State → Bool
+selectsEarly k c a s = stores14 k && rules.tooEarly (windowCause c) a s
+
+-- the rows after it
 abbrev pub lateLines : Kind → Command → ℕ → ℕ → Attributes → State → List Line
 lateLines k c given room a s =
     line (windowWrong k c s) invalidField
     ∷ shortLine k c given room
-    ∷ line (stores14 k && rules.tooEarly (windowCause c) a s) tooEarly
+    ∷ line (selectsEarly k c a s) tooEarly
     ∷ []

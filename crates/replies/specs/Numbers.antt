@@ -1,5 +1,9 @@
--- 01, "Status numbers (type x 256 + code)". 0 is success.
+-- 01, "Status numbers (type x 256 + code)".
 use Prim.Native.Nat.{ℕ}
+
+-- carried out
+abbrev pub success : ℕ
+success = 0x0000
 
 -- opcode not listed
 abbrev pub invalidOpcode : ℕ

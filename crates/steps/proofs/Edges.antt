@@ -20,7 +20,7 @@ use Rattle.steps.specs.Items.{Card, Item, reads, excursion, tick, comman
 use Rattle.commands.specs.Commands.{commandIn}
 use Rattle.steps.specs.Commanded.{commandMeaning}
 use Rattle.steps.specs.Meanings.{meaning}
-use Rattle.steps.specs.Card.{statusOf, effectOn, concerns, touched, answer, Outcome, step}
+use Rattle.steps.specs.Card.{refusalOf, effectOn, concerns, touched, answer, Outcome, step}
 
 -- ---- the set, and the cards to start from
 
@@ -148,5 +148,5 @@ expected =
     ∷ []
 
 edges : got ≡ expected
-unfolding got expected commandIn commandMeaning meaning statusOf effectOn concerns touched answer latencyPage place
+unfolding got expected commandIn commandMeaning meaning refusalOf effectOn concerns touched answer latencyPage place
 edges = refl

@@ -22,7 +22,7 @@ use Rattle.steps.specs.declared.Media.the-variants.{Reads, Writes, Excur
 use Rattle.steps.specs.Items.{Item, tick, The}
 use Rattle.steps.specs.Meanings.{event, ticked, meaning}
 use Rattle.steps.specs.Media.{itemOf, mediaRule, tickOne}
-use Rattle.steps.specs.Card.{statusAll, statusOf, concerns, touched, effectOn, answer}
+use Rattle.steps.specs.Card.{refusalAll, refusalOf, concerns, touched, effectOn, answer}
 use Rattle.steps.specs.Words.{cardOf, Stepped}
 use Rattle.steps.proofs.Lists.{map-same}
 use Rattle.steps.proofs.Shapes.{touched-own}
@@ -64,7 +64,7 @@ module _ (ws : List ℕ) (id : ℕ) (m : Media) (e : Entry) (known : e ≡ enter
 -- ---- ticks
 
 -- a tick of at most a day is refused on no card
-tick-status : (t n : ℕ) → t ≤ dayMs → statusAll (ticked t) n ≡ 0
+tick-status : (t n : ℕ) → t ≤ dayMs → refusalAll (ticked t) n ≡ 0
 tick-status t n h = rw (le-ltb dayMs t h, zero-mul n)
 
 tick-concerns : (t n id : ℕ) → t ≤ dayMs → concerns n id (tick t) ≡ true
@@ -77,7 +77,7 @@ tick-touches t n h r = touched-own n (tick t) r (tick-concerns t n (idOf r) h)
 
 module _ (ws : List ℕ) (t : ℕ) (e : legalTable ws ≡ true) where
   pub tick-long : dayMs < t → Stepped ws (tick t) ws tickTooLong
-  unfolding statusOf meaning
+  unfolding refusalOf meaning
   tick-long h =
       let r = step-refused ws (tick t) tickTooLong e (rw (lt-ltb dayMs t h)) (λ z. omega arith) in
       record { table = rw r; status = rw r }

@@ -24,7 +24,7 @@ use Rattle.table.proofs.Written.{written-own, written-one}
 use Rattle.steps.specs.Lists.{nth, first}
 use Rattle.steps.specs.Items.{Item, One, The}
 use Rattle.steps.specs.Meanings.{meaning}
-use Rattle.steps.specs.Card.{statusAt, unknownAt, statusOne, statusOf, effectOn, ruled, has, names, after, answer}
+use Rattle.steps.specs.Card.{refusalAt, unknownAt, refusalOne, refusalOf, effectOn, ruled, has, names, after, answer}
 use Rattle.steps.specs.Words.{cardOf, stepWords}
 use Rattle.steps.proofs.Shapes.{bool-cases}
 use Rattle.steps.proofs.Slots.{found, refused-answer, refused-sets, at-slot}
@@ -127,19 +127,19 @@ step-legal ws i e = rw e
 
 -- a refusal leaves the words as they were
 pub step-refused :
-    (ws : List ℕ) (i : Item) (s : ℕ) → legalTable ws ≡ true → statusOf (cardOf ws) i ≡ s → (s ≡ 0 → ⊥)
+    (ws : List ℕ) (i : Item) (s : ℕ) → legalTable ws ≡ true → refusalOf (cardOf ws) i ≡ s → (s ≡ 0 → ⊥)
     → stepWords ws i ≡ record { table = ws; answer = refused s }
 step-refused ws i s e q n =
     let l = legal-known ws e in
-    let z : eqb (statusOf (cardOf ws) i) 0 ≡ false = ne-eqb _ _ (λ t. n (sym q ∙ t)) in
+    let z : eqb (refusalOf (cardOf ws) i) 0 ≡ false = ne-eqb _ _ (λ t. n (sym q ∙ t)) in
     step-legal ws i e
     ∙ rw (refused-sets (cardOf ws) i (sets-known ws l) z, written-own ws l, refused-answer (cardOf ws) i z, q)
 
 -- ---- an item that names a set
 
 module _ (ws : List ℕ) (i : Item) (id : ℕ) (o : One) (m : meaning i ≡ The id o) (e : legalTable ws ≡ true) where
-  status-is : (x : Option Record) → first (has id) (recordsOf ws) ≡ x → statusOf (cardOf ws) i ≡ statusOne o x
-  unfolding statusOf
+  status-is : (x : Option Record) → first (has id) (recordsOf ws) ≡ x → refusalOf (cardOf ws) i ≡ refusalOne o x
+  unfolding refusalOf
   status-is x f = rw (m, f)
 
   -- no set has its identifier
@@ -156,21 +156,21 @@ module _ (ws : List ℕ) (i : Item) (id : ℕ) (o : One) (m : meaning i ≡ The 
     names-it = rw m (eq-eqb id _ (sym (it .same)))
 
     -- refused by what it asks of the set
-    pub step-late : (s : ℕ) → statusAt o (recordOf (row ws k) .attributes) (recordOf (row ws k) .state) ≡ s → (s ≡ 0 → ⊥) → stepWords ws i ≡ record { table = ws; answer = refused s }
+    pub step-late : (s : ℕ) → refusalAt o (recordOf (row ws k) .attributes) (recordOf (row ws k) .state) ≡ s → (s ≡ 0 → ⊥) → stepWords ws i ≡ record { table = ws; answer = refused s }
     step-late s q n = step-refused ws i s e (status-is _ (it .look) ∙ q) n
 
-    effect-is : statusAt o (recordOf (row ws k) .attributes) (recordOf (row ws k) .state) ≡ 0
+    effect-is : refusalAt o (recordOf (row ws k) .attributes) (recordOf (row ws k) .state) ≡ 0
         → ruled i (recordOf (row ws k)) ≡ settled (recordOf (row ws k)) (o .rule (recordOf (row ws k) .attributes) (recordOf (row ws k) .state))
     unfolding effectOn
     effect-is z = rw (m, z)
 
-    answer-is : statusAt o (recordOf (row ws k) .attributes) (recordOf (row ws k) .state) ≡ 0 → answer (cardOf ws) i ≡ o .done (recordOf (row ws k))
+    answer-is : refusalAt o (recordOf (row ws k) .attributes) (recordOf (row ws k) .state) ≡ 0 → answer (cardOf ws) i ≡ o .done (recordOf (row ws k))
     unfolding answer
     answer-is z = rw (m, it .look, z)
 
     -- carried out: its slot holds the record after the rule, and nothing else changes
     pub step-done :
-        statusAt o (recordOf (row ws k) .attributes) (recordOf (row ws k) .state) ≡ 0
+        refusalAt o (recordOf (row ws k) .attributes) (recordOf (row ws k) .state) ≡ 0
         → stepWords ws i
         ≡ record {
           table = put ws k (wordsOf (settled (recordOf (row ws k)) (o .rule (recordOf (row ws k) .attributes) (recordOf (row ws k) .state))));

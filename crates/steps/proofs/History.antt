@@ -17,7 +17,7 @@ use Rattle.pages.specs.Aggregate.{picked}
 use Rattle.steps.specs.Lists.{nth, first, keep, beside, join}
 use Rattle.steps.specs.Items.{Card, Item, All, Meaning, Nobody, Everybody, The}
 use Rattle.steps.specs.Meanings.{meaning}
-use Rattle.steps.specs.Card.{statusAll, statusBy, statusOf, effectOn, ruled, has, names, namesBy, concerns, concernsBy, touched, after, answer, run, trace}
+use Rattle.steps.specs.Card.{refusalAll, refusalBy, refusalOf, effectOn, ruled, has, names, namesBy, concerns, concernsBy, touched, after, answer, run, trace}
 use Rattle.steps.specs.Demands.{alone, toAllBy, toAll, owns, own, OwnRecord, lived, ByRules, OwnAnswers, Joined, raises, noneCleared, raised, pending, Listed, PickedIds, Aggregate, Rising, InOrder, Swap, SwapWithin}
 use Rattle.steps.proofs.Lists.{if-ap, if-cons, map-id, map-same, map-same-if, nth-map, keep-same, keep-map, first-map, first-fixed}
 use Rattle.steps.proofs.Shapes.{bool-cases, named, unnamed, answers, fewer-all, fewer, touched-own, touched-not, keeps}
@@ -25,13 +25,13 @@ use Rattle.steps.proofs.Slots.{ordered, found}
 
 -- ---- the items that concern a set are those that name it and, of those that go to every set, those that are carried out
 
-owned-by : (m : Meaning) (c : Card) (id : ℕ) → namesBy m id || toAllBy m && eqb (statusBy m c) 0 ≡ concernsBy m (length (c .sets)) id
+owned-by : (m : Meaning) (c : Card) (id : ℕ) → namesBy m id || toAllBy m && eqb (refusalBy m c) 0 ≡ concernsBy m (length (c .sets)) id
 owned-by (Nobody v) c id = refl
 owned-by (Everybody a) c id = refl
 owned-by (The a o) c id = or-false (eqb a id)
 
 owned : (c : Card) (id : ℕ) (i : Item) → owns c id i ≡ concerns (length (c .sets)) id i
-unfolding names toAll statusOf concerns
+unfolding names toAll refusalOf concerns
 owned c id i = owned-by (meaning i) c id
 
 own-is : (c : Card) (r : Record) (is : List Item) → own c r is ≡ keep (concerns (length (c .sets)) (idOf r)) is
@@ -127,18 +127,18 @@ done-zero true x d e h = eqb-true x 0 e
 done-zero false x d e h = h
 
 module _ (i : Item) (a : All) (m : meaning i ≡ Everybody a) where
-  carried : (c : Card) → answer c i .status ≡ 0 → statusAll a (length (c .sets)) ≡ 0
+  carried : (c : Card) → answer c i .status ≡ 0 → refusalAll a (length (c .sets)) ≡ 0
   unfolding answer
-  carried c h = done-zero _ (statusAll a (length (c .sets))) _ refl (rw m at h)
+  carried c h = done-zero _ (refusalAll a (length (c .sets))) _ refl (rw m at h)
 
-  all-bytes : (c : Card) (rs : List Record) → c .sets ≡ rs → statusAll a (length rs) ≡ 0 → answer c i .bytes ≡ join (map (a .part) rs)
+  all-bytes : (c : Card) (rs : List Record) → c .sets ≡ rs → refusalAll a (length rs) ≡ 0 → answer c i .bytes ≡ join (map (a .part) rs)
   unfolding answer
   all-bytes c rs q e = rw (m, q, e)
 
 pub joined : Joined
 joined c is i a m h =
     let n = length (c .sets) in
-    let s : statusAll a n ≡ 0 = rw (run-sets is c, length-map) at (carried i a m (run c is) h) in
+    let s : refusalAll a n ≡ 0 = rw (run-sets is c, length-map) at (carried i a m (run c is) h) in
     all-bytes i a m (run c is) _ (run-sets is c) (rw length-map s)
     ∙ rw map-map (ap join (map-same-if _ _ (c .sets) (λ l r.
     rw (passed-own n l is r, ← own-is c r is, ← append-nil (a .part (passed 1 (own c r is) r)))
@@ -187,7 +187,7 @@ pub picked-ids : PickedIds
 picked-ids c is = pick-keep (run c is .sets) ∙ listed c is
 
 pub aggregate : Aggregate
-unfolding answer statusOf
+unfolding answer refusalOf
 aggregate c is i v page m d h = rw (m, rw m at h, d (run c is), picked-ids c is)
 
 lower : (p q : ℕ) (xs : List ℕ) → p ≤ q → Rising q xs → Rising p xs

@@ -12,7 +12,7 @@ use Rattle.pages.specs.Aggregate.{aggregatePage}
 use Rattle.pages.proofs.Listed.{aggregate-back}
 use Rattle.steps.specs.Items.{Card, Item, reads}
 use Rattle.steps.specs.Meanings.{meaning}
-use Rattle.steps.specs.Card.{statusOf, effectOn, concerns, touched, answer, step, run}
+use Rattle.steps.specs.Card.{refusalOf, effectOn, concerns, touched, answer, step, run}
 use Rattle.steps.proofs.Edges.{inD}
 
 -- the reads of the first set
@@ -22,12 +22,12 @@ readsOf (r ∷ rs) = r .state .reads
 
 -- "One that refuses all": 90 reads of set 7 in D succeed
 not-refusing-all : ((c : Card) (i : Item) → answer c i .status ≡ 0 → ⊥) → ⊥
-unfolding answer statusOf effectOn concerns touched meaning
+unfolding answer refusalOf effectOn concerns touched meaning
 not-refusing-all h = h inD (reads 7 90) refl
 
 -- ".. or answers alike to all": there is no set 8
 not-alike : ((c : Card) (i j : Item) → answer c i .status ≡ answer c j .status) → ⊥
-unfolding answer statusOf effectOn concerns touched meaning
+unfolding answer refusalOf effectOn concerns touched meaning
 not-alike h = let e : _≡_ {A = ℕ} 0 0x07C0 = h inD (reads 7 90) (reads 8 90) in omega arith
 
 -- "One that changes nothing"

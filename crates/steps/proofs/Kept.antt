@@ -25,7 +25,7 @@ use Rattle.commands.specs.declared.Kind.the-variants.{SetConfig, SetWindow, Get
 use Rattle.commands.specs.Commands.{enable, windowCause, retain, kindOf, commandIn}
 use Rattle.steps.specs.Commanded.{meaningBy, commandMeaning}
 use Rattle.steps.specs.Meanings.{meaning}
-use Rattle.steps.specs.Card.{statusAt, effectBy, effectOn, concerns, touched, after, step}
+use Rattle.steps.specs.Card.{refusalAt, effectBy, effectOn, concerns, touched, after, step}
 use Rattle.steps.specs.Words.{cardOf, stepWords}
 use Rattle.steps.proofs.Shapes.{bool-cases, touched-own, touched-not, keeps}
 use Rattle.steps.proofs.Slots.{ordered}
@@ -36,7 +36,7 @@ abbrev Sound : Meaning → Type 0
 Sound (Nobody v) = Unit {0}
 Sound (Everybody e) = KeepsState (e .rule)
 Sound (The id o) =
-    (a : Attributes) (s : State) → statusAt o a s ≡ 0 → legalAttributes a ≡ true → legalState a s ≡ true → legalState a (o .rule a s .state) ≡ true
+    (a : Attributes) (s : State) → refusalAt o a s ≡ 0 → legalAttributes a ≡ true → legalState a s ≡ true → legalState a (o .rule a s .state) ≡ true
 
 by-retain : (b : Bool) (a : Attributes) (s : State) → legalState a s ≡ true → legalState a ((if b then rules.still s else rules.clearingRead s) .state) ≡ true
 by-retain true a s l = l
@@ -66,7 +66,7 @@ sound (command bytes given room) = command-sound bytes given room
 effect-kept : (m : Meaning) → Sound m → KeepsState (effectBy m)
 effect-kept (Nobody v) k a s h l = l
 effect-kept (Everybody e) k a s h l = k a s h l
-effect-kept (The id o) k a s h l = ⊎-elim (λ e. rw e (k a s (eqb-true _ _ e) h l)) (λ e. rw e l) (bool-cases (eqb (statusAt o a s) 0))
+effect-kept (The id o) k a s h l = ⊎-elim (λ e. rw e (k a s (eqb-true _ _ e) h l)) (λ e. rw e l) (bool-cases (eqb (refusalAt o a s) 0))
 
 effect-keeps : (i : Item) → KeepsState (effectOn i)
 unfolding effectOn

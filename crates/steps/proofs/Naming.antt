@@ -13,7 +13,7 @@ use Rattle.replies.specs.declared.Reply.{Reply}
 use Rattle.replies.specs.Numbers.{badTable}
 use Rattle.replies.specs.Status.{line, firstOf}
 use Rattle.replies.specs.Answers.{refusing}
-use Rattle.replies.proofs.Rows.{passed}
+use Rattle.commands.proofs.Passed.{not-past}
 use Rattle.table.specs.declared.Entry.{Entry}
 use Rattle.table.specs.declared.Entry.the-variants.{Bad, Unknown, Here}
 use Rattle.table.specs.Layout.{recordOf}
@@ -37,11 +37,7 @@ answered-bad ws i before x e ex =
     record { table = rw d; reply = rw (d, ex) (refused-reply badTable before) }
 
 pub unknown-not-zero : (c : Command) → firstOf (earlyLines c ++ line true unknownNumber ∷ []) ≡ 0 → ⊥
-unknown-not-zero c z =
-    let n = passed (earlyLines c ++ line true unknownNumber ∷ []) refl z in
-    let t : true ≡ false = n .1 .1 .1 .1 .1 .1 .0 in
-    let y : _≡_ {A = ℕ} 0 1 = cc in
-    omega arith
+unknown-not-zero c z = not-past c (line true unknownNumber ∷ []) refl (λ y. omega arith) z
 
 module _ (ws : List ℕ) (k : Kind) (c : Command) (given before : List ℕ) (e : Entry) (known : e ≡ enterIn ws (namedBy k c))
     (i : Item) (m : meaning i ≡ The (namedBy k c) (named k c given (length before))) where

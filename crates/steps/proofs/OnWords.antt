@@ -15,7 +15,7 @@ use Rattle.table.proofs.Records.{length-words}
 use Rattle.table.proofs.Known.{legal-known}
 use Rattle.table.proofs.Written.{written-own}
 use Rattle.steps.specs.Items.{Card, Item}
-use Rattle.steps.specs.Card.{statusOf, after, answer, run, trace}
+use Rattle.steps.specs.Card.{refusalOf, after, answer, run, trace}
 use Rattle.steps.specs.Words.{cardOf, stepWords}
 use Rattle.steps.specs.Demands.{Refused, RefusedWords, runWords, traceWords, WordsRun, WordsTrace, WordsSwap}
 use Rattle.steps.proofs.Lists.{sets-over}
@@ -26,12 +26,12 @@ use Rattle.steps.proofs.Kept.{step-keeps, step-back}
 use Rattle.steps.proofs.History.{length-run, swap-within}
 
 pub refused : Refused
-refused c i h n = let s = ne-eqb (statusOf c i) 0 n in (refused-answer c i s, refused-sets c i h s)
+refused c i h n = let s = ne-eqb (refusalOf c i) 0 n in (refused-answer c i s, refused-sets c i h s)
 
 pub refused-words : RefusedWords
 refused-words ws i n =
     ⊎-elim
-    (λ e. rw e (step-refused ws i (statusOf (cardOf ws) i) e refl (rw e at n)))
+    (λ e. rw e (step-refused ws i (refusalOf (cardOf ws) i) e refl (rw e at n)))
     (λ e. rw e (step-bad ws i e))
     (bool-cases (legalTable ws))
 

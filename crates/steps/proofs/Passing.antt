@@ -24,12 +24,13 @@ use Rattle.commands.specs.declared.Command.{Command}
 use Rattle.commands.specs.declared.Kind.{Kind}
 use Rattle.commands.specs.declared.Kind.the-variants.{SetConfig, SetWindow, GetConfig, GetWindow, ReadLatency, ReadAggregate, Identify}
 use Rattle.commands.specs.Commands.{isLog, isSet, isGet, chosen, select, offset, configFid, latencyPageNo, kindBy, kindOf, needsIn, needsOut, logSize}
+use Rattle.commands.proofs.Passed.{early-passed, late-passed}
 use Rattle.commands.specs.StatusTable.{partWrong, earlyLines, shortLine, lateLines}
 use Rattle.steps.specs.Commanded.{isNamed, modeNo, doneBy}
 use Rattle.steps.specs.OnSet.{dwordBy, pageBy, fromBy}
 
 -- what an or that is false tells
-left-false : (a b : Bool) → a || b ≡ false → a ≡ false
+pub left-false : (a b : Bool) → a || b ≡ false → a ≡ false
 left-false true b h = h
 left-false false b h = refl
 
@@ -88,12 +89,12 @@ pub fine :
     (k : Kind) (c : Command) (given room : ℕ) (a : Attributes) (s : State) → k ≡ kindOf c
     → firstOf (earlyLines c ++ lateLines k c given room a s) ≡ 0 → Fine k c given room
 fine k c given room a s e z =
-    let n = passed (earlyLines c ++ lateLines k c given room a s) refl z in
-    let h = n .1 .1 .1 .1 .1 .1 .1 .0 in
+    let n = early-passed c (lateLines k c given room a s) refl z in
+    let h = late-passed k c given room a s (n .later) .short in
     record {
       inward = ltb-false given (needsIn k) (left-false (ltb given (needsIn k)) _ h);
       outward = ltb-false room (needsOut k c) (right-false (ltb given (needsIn k)) _ h);
-      start = from-by k c e (n .1 .1 .1 .1 .1 .0);
+      start = from-by k c e (n .part);
     }
 
 -- what a status of 0 tells of a command that names no set
@@ -101,8 +102,9 @@ view-room :
     (k : Kind) (c : Command) (given room s : ℕ) → s ≡ firstOf (earlyLines c ++ shortLine k c given room ∷ []) → s ≡ 0
     → (isGet c && not (eqb (select c) 0) || isLog c && partWrong c ≡ false) × (needsOut k c ≤ room)
 view-room k c given room s e z =
-    let n = passed (earlyLines c ++ shortLine k c given room ∷ []) refl (sym e ∙ z) in
-    (n .1 .1 .1 .1 .1 .0, ltb-false room (needsOut k c) (right-false (ltb given (needsIn k)) _ (n .1 .1 .1 .1 .1 .1 .0)))
+    let n = early-passed c (shortLine k c given room ∷ []) refl (sym e ∙ z) in
+    let h = passed (shortLine k c given room ∷ []) refl (n .later) .0 in
+    (n .part, ltb-false room (needsOut k c) (right-false (ltb given (needsIn k)) _ h))
 
 pub aggregate-fine :
     (c : Command) (given room s : ℕ) → kindOf c ≡ ReadAggregate → s ≡ firstOf (earlyLines c ++ shortLine ReadAggregate c given room ∷ [])

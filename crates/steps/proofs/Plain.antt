@@ -18,7 +18,7 @@ use Rattle.steps.specs.Lists.{first, join}
 use Rattle.steps.specs.Items.{Card, Item, tick, The, Everybody}
 use Rattle.steps.specs.Meanings.{event, ticked, meaning}
 use Rattle.steps.specs.Media.{itemOf, mediaRule}
-use Rattle.steps.specs.Card.{has, statusBy, doneOne, doneBy, answerBy, answer}
+use Rattle.steps.specs.Card.{has, refusalBy, doneOne, doneBy, answerBy, answer}
 use Rattle.steps.specs.Words.{cardOf, stepWords}
 use Rattle.steps.proofs.Shapes.{bool-cases}
 use Rattle.steps.proofs.Frame.{step-bad, step-legal}
@@ -43,12 +43,12 @@ no-data (r ∷ rs) = no-data rs
 one-plain : (id : ℕ) (rule : Attributes → State → Effect) (c : Card) → Plain (answerBy (The id (event rule)) c)
 one-plain id rule c =
     let m = The id (event rule) in
-    by-test (eqb (statusBy m c) 0) (statusBy m c) (doneBy m c) (done-plain rule (first (has id) (c .sets)))
+    by-test (eqb (refusalBy m c) 0) (refusalBy m c) (doneBy m c) (done-plain rule (first (has id) (c .sets)))
 
 all-plain : (t : ℕ) (c : Card) → Plain (answerBy (Everybody (ticked t)) c)
 all-plain t c =
     let m = Everybody (ticked t) in
-    by-test (eqb (statusBy m c) 0) (statusBy m c) (doneBy m c) (record { dword = refl; bytes = no-data (c .sets) })
+    by-test (eqb (refusalBy m c) 0) (refusalBy m c) (doneBy m c) (record { dword = refl; bytes = no-data (c .sets) })
 
 event-plain : (id : ℕ) (m : Media) (c : Card) → Plain (answer c (itemOf id m))
 unfolding answer

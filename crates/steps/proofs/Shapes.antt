@@ -12,7 +12,7 @@ use Rattle.table.specs.Table.{idOf}
 use Rattle.steps.specs.Lists.{first}
 use Rattle.steps.specs.Items.{Card, Item, All, Meaning, Nobody, Everybody, The}
 use Rattle.steps.specs.Meanings.{meaning}
-use Rattle.steps.specs.Card.{statusAll, has, names, namesBy, concerns, concernsBy, touched, ruled, answer, answerBy}
+use Rattle.steps.specs.Card.{refusalAll, has, names, namesBy, concerns, concernsBy, touched, ruled, answer, answerBy}
 use Rattle.steps.proofs.Lists.{last-row}
 
 pub bool-cases : (b : Bool) → (b ≡ true) ⊎ (b ≡ false)
@@ -47,7 +47,7 @@ answers i a c d e h = answer-by (meaning i) a c d e h
 less : (each room n : ℕ) → 1 ≤ n → ltb room (each * n) ≡ false → ltb room (each * 1) ≡ false
 less each room n h e = le-ltb room (each * 1) (omega (arith, mul-le-mul-left each h, ltb-false room (each * n) e))
 
-pub fewer-all : (a : All) (n : ℕ) → 1 ≤ n → statusAll a n ≡ 0 → statusAll a 1 ≡ 0
+pub fewer-all : (a : All) (n : ℕ) → 1 ≤ n → refusalAll a n ≡ 0 → refusalAll a 1 ≡ 0
 fewer-all a n h e = last-row (a .early) _ _ _ (less (a .each) (a .room) n h) e
 
 fewer-by : (m : Meaning) (n id : ℕ) → 1 ≤ n → concernsBy m n id ≡ true → concernsBy m 1 id ≡ true

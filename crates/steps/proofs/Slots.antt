@@ -19,7 +19,7 @@ use Rattle.table.specs.Table.{idOf, legalSets}
 use Rattle.steps.specs.Lists.{nth, first}
 use Rattle.steps.specs.Items.{Card, Item, Meaning, Nobody, Everybody, The}
 use Rattle.steps.specs.Meanings.{meaning}
-use Rattle.steps.specs.Card.{effectBy, effectOn, ruled, concernsBy, statusBy, statusOf, concerns, touched, after, has, answer, names}
+use Rattle.steps.specs.Card.{effectBy, effectOn, ruled, concernsBy, refusalBy, refusalOf, concerns, touched, after, has, answer, names}
 use Rattle.steps.proofs.Lists.{map-fixed}
 use Rattle.steps.proofs.Shapes.{bool-cases, named, touched-own, touched-not}
 
@@ -54,16 +54,16 @@ settled-still : (r : Record) → settled r (still (r .state)) ≡ r
 settled-still r = simp or-false (rw (or-false (r .notes .listed)))
 
 still-by :
-    (m : Meaning) (c : Card) (r : Record) → eqb (statusBy m c) 0 ≡ false → concernsBy m (length (c .sets)) (idOf r) ≡ true
+    (m : Meaning) (c : Card) (r : Record) → eqb (refusalBy m c) 0 ≡ false → concernsBy m (length (c .sets)) (idOf r) ≡ true
     → first (has (idOf r)) (c .sets) ≡ some r → effectBy m (r .attributes) (r .state) ≡ still (r .state)
 still-by (Nobody v) c r s e f = refl
 still-by (Everybody a) c r s e f = cc
 still-by (The a o) c r s e f = rw (rw (eqb-true a (idOf r) e, f) at s)
 
 refused-still :
-    (c : Card) (i : Item) (r : Record) → eqb (statusOf c i) 0 ≡ false → first (has (idOf r)) (c .sets) ≡ some r
+    (c : Card) (i : Item) (r : Record) → eqb (refusalOf c i) 0 ≡ false → first (has (idOf r)) (c .sets) ≡ some r
     → touched (length (c .sets)) i r ≡ r
-unfolding effectOn statusOf concerns
+unfolding effectOn refusalOf concerns
 refused-still c i r s f =
     let n = length (c .sets) in
     ⊎-elim
@@ -71,12 +71,12 @@ refused-still c i r s f =
     (λ t. touched-not n i r t)
     (bool-cases (concerns n (idOf r) i))
 
-pub refused-answer : (c : Card) (i : Item) → eqb (statusOf c i) 0 ≡ false → answer c i ≡ refused (statusOf c i)
-unfolding answer statusOf
+pub refused-answer : (c : Card) (i : Item) → eqb (refusalOf c i) 0 ≡ false → answer c i ≡ refused (refusalOf c i)
+unfolding answer refusalOf
 refused-answer c i s = rw s
 
 -- a refused item changes no set
-pub refused-sets : (c : Card) (i : Item) → legalSets 0 (c .sets) ≡ true → eqb (statusOf c i) 0 ≡ false → after c i .sets ≡ c .sets
+pub refused-sets : (c : Card) (i : Item) → legalSets 0 (c .sets) ≡ true → eqb (refusalOf c i) 0 ≡ false → after c i .sets ≡ c .sets
 refused-sets c i h s = map-fixed _ (c .sets) (λ k r e. refused-still c i r s (found 0 k (c .sets) r h e))
 
 -- ---- an item that names a set

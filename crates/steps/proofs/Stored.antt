@@ -23,7 +23,7 @@ use Rattle.record.specs.Record.{limit, spent, afresh, spending}
 use Rattle.record.specs.Events.{bit}
 use Rattle.record.specs.Window.{byWindow, windowNo, sameWindow}
 use Rattle.replies.specs.Status.{line}
-use Rattle.replies.proofs.Rows.{passed}
+use Rattle.commands.proofs.Passed.{early-passed, late-passed}
 use Rattle.rules.specs.declared.Cause.the-variants.{Excursion, Exceeded, TimeUp}
 use Rattle.rules.specs.Changes.{movedBy}
 use Rattle.rules.specs.Rules as rules
@@ -35,11 +35,13 @@ use Rattle.commands.specs.declared.Kind.{Kind}
 use Rattle.commands.specs.declared.Kind.the-variants.{SetConfig, SetWindow, GetConfig, GetWindow, ReadLatency, ReadAggregate, Identify}
 use Rattle.steps.specs.Items.{Card, Item, reads, writes, excursion, tick, command, One, Meaning, Nobody, Everybody, The}
 use Rattle.commands.specs.Commands.{featureSet, enable, windowValue, causeBy, windowCause, retain, kindOf, commandIn}
-use Rattle.commands.specs.StatusTable.{earlyLines, unknownNumber, isOff, lateLines}
+use Rattle.commands.specs.StatusTable.{isOff, lateLines}
 use Rattle.steps.specs.Commanded.{modeNo, named, meaningBy, commandMeaning}
 use Rattle.steps.specs.Meanings.{meaning}
-use Rattle.steps.specs.Card.{statusAt, statusOne, statusOf, has, effectBy, effectOn, names, namesBy, concernsBy, concerns, touched, after, answer, run}
+use Rattle.steps.specs.Card.{refusalAt, refusalOne, refusalOf, has, effectBy, effectOn, names, namesBy, concernsBy, concerns, touched, after, answer, run}
 use Rattle.steps.specs.Demands.{noneOf, stores13, configures, ConfigStored, reaches, toAllBy, toAll, WindowStored}
+use Rattle.steps.proofs.Exact.{answers}
+use Rattle.steps.proofs.Naming.{unknown-not-zero}
 use Rattle.steps.proofs.Lists.{first-map, first-passes, first-fixed}
 use Rattle.steps.proofs.Shapes.{bool-cases, touched-own, touched-not, keeps}
 use Rattle.steps.proofs.History.{has-same}
@@ -150,7 +152,7 @@ mild id (command bytes given room) h = command-mild id bytes given room h
 effect-mild : (id n : ℕ) (m : Meaning) → Mild id m → concernsBy m n id ≡ true → (a : Attributes) (s : State) → Kept s (effectBy m a s .state)
 effect-mild id n (Nobody v) k e a s = same s
 effect-mild id n (Everybody v) k e a s = k a s
-effect-mild id n (The named o) k e a s = by-test (eqb (statusAt o a s) 0) s _ _ (k e a s) (same s)
+effect-mild id n (The named o) k e a s = by-test (eqb (refusalAt o a s) 0) s _ _ (k e a s) (same s)
 
 touched-mild : (n : ℕ) (i : Item) (r : Record) → configures (idOf r) i ≡ false → Kept (r .state) (touched n i r .state)
 unfolding effectOn concerns
@@ -192,18 +194,15 @@ module _ (bytes given : List ℕ) (room : ℕ) (k : Kind) (e : kindOf (commandIn
 record Held (x : Option Record) (o : One) : Type 0 where
   held : Record
   there : x ≡ some held
-  passes : statusAt o (held .attributes) (held .state) ≡ 0
+  passes : refusalAt o (held .attributes) (held .state) ≡ 0
 
-held-by : (k : Kind) (c : Command) (given : List ℕ) (room : ℕ) (x : Option Record) → statusOne (named k c given room) x ≡ 0 → Held x (named k c given room)
-held-by k c given room none h =
-    let p = passed (earlyLines c ++ line true unknownNumber ∷ []) refl h in
-    let t : true ≡ false = p .1 .1 .1 .1 .1 .1 .0 in
-    absurd (let z : _≡_ {A = ℕ} 0 1 = cc in omega arith)
+held-by : (k : Kind) (c : Command) (given : List ℕ) (room : ℕ) (x : Option Record) → refusalOne (named k c given room) x ≡ 0 → Held x (named k c given room)
+held-by k c given room none h = absurd (unknown-not-zero c h)
 held-by k c given room (some r) h = record { held = r; there = refl; passes = h }
 
 module _ (i : Item) (id : ℕ) (o : One) (m : meaning i ≡ The id o) (c : Card) where
-  status-is : statusOf c i ≡ statusOne o (first (has id) (c .sets))
-  unfolding statusOf
+  status-is : refusalOf c i ≡ refusalOne o (first (has id) (c .sets))
+  unfolding refusalOf
   status-is = rw m
 
   module _ (r : Record) (f : first (has id) (c .sets) ≡ some r) where
@@ -211,7 +210,7 @@ module _ (i : Item) (id : ℕ) (o : One) (m : meaning i ≡ The id o) (c : Card)
     has-id = eqb-true (idOf r) id (first-passes (has id) (c .sets) r f)
 
     -- what it answers
-    done-is : statusOf c i ≡ 0 → answer c i ≡ o .done r
+    done-is : refusalOf c i ≡ 0 → answer c i ≡ o .done r
     unfolding answer
     done-is h = rw (m, f, rw f at (sym status-is ∙ h))
 
@@ -220,18 +219,20 @@ module _ (i : Item) (id : ℕ) (o : One) (m : meaning i ≡ The id o) (c : Card)
     unfolding concerns
     concerns-it n = rw m (eq-eqb id (idOf r) (sym has-id))
 
-    effect-is : statusAt o (r .attributes) (r .state) ≡ 0 → effectOn i (r .attributes) (r .state) ≡ o .rule (r .attributes) (r .state)
+    effect-is : refusalAt o (r .attributes) (r .state) ≡ 0 → effectOn i (r .attributes) (r .state) ≡ o .rule (r .attributes) (r .state)
     unfolding effectOn
     effect-is h = rw (m, h)
 
-    left-is : statusAt o (r .attributes) (r .state) ≡ 0 → touched (length (c .sets)) i r .state ≡ o .rule (r .attributes) (r .state) .state
+    left-is : refusalAt o (r .attributes) (r .state) ≡ 0 → touched (length (c .sets)) i r .state ≡ o .rule (r .attributes) (r .state) .state
     left-is h = ap (λ (x : Record). x .state) (touched-own (length (c .sets)) i r (concerns-it (length (c .sets)))) ∙ ap (λ (x : Effect). x .state) (effect-is h)
 
     left-there : first (has id) (after c i .sets) ≡ some (touched (length (c .sets)) i r)
     left-there = first-map (touched (length (c .sets)) i) (has id) (has-same (length (c .sets)) id i) (c .sets) ∙ rw f
 
 pub config-stored : ConfigStored
-config-stored c bytes given room is bytes′ given′ room′ k z h k′ q z′ =
+config-stored c bytes given room is bytes′ given′ room′ k a h k′ q a′ =
+    let z = sym (answers c (command bytes given room)) ∙ a in
+    let z′ = sym (answers (run c (command bytes given room ∷ is)) (command bytes′ given′ room′)) ∙ a′ in
     let C = commandIn bytes in
     let id = featureSet C in
     let i = command bytes given room in
@@ -297,16 +298,18 @@ selected-window d a s h =
     lands (sameWindow w (s .window)) (rules.still s) (rules.entered w a s) (if d then 1 else 2) (λ t. sym (eqb-true (windowNo w) (windowNo (s .window)) t) ∙ m) m
 
 asked-window :
-    (c : Command) (given : List ℕ) (room : ℕ) (a : Attributes) (s : State) → statusAt (named SetWindow c given room) a s ≡ 0
+    (c : Command) (given : List ℕ) (room : ℕ) (a : Attributes) (s : State) → refusalAt (named SetWindow c given room) a s ≡ 0
     → windowNo (rules.selecting (windowCause c) a s .state .window) ≡ windowValue c
 asked-window c given room a s h =
-    let p = passed (earlyLines c ++ lateLines SetWindow c (length given) room a s) refl h in
-    let o = or-none (isOff s) _ (p .1 .1 .1 .1 .1 .1 .0) in
+    let p = early-passed c (lateLines SetWindow c (length given) room a s) refl h in
+    let o = or-none (isOff s) _ (late-passed SetWindow c (length given) room a s (p .later) .window) in
     selected-window (eqb (windowValue c) 1) a s (o .0)
     ∙ one-or-two (windowValue c) (eqb (windowValue c) 1) (eqb (windowValue c) 2) refl refl (o .1)
 
 pub window-stored : WindowStored
-window-stored c bytes given room is bytes′ given′ room′ k z h k′ q z′ =
+window-stored c bytes given room is bytes′ given′ room′ k a h k′ q a′ =
+    let z = sym (answers c (command bytes given room)) ∙ a in
+    let z′ = sym (answers (run c (command bytes given room ∷ is)) (command bytes′ given′ room′)) ∙ a′ in
     let C = commandIn bytes in
     let id = featureSet C in
     let i = command bytes given room in

@@ -27,34 +27,34 @@ use Rattle.steps.specs.Meanings.{meaning}
 abbrev pub unknownAt : One → ℕ
 unknownAt o = firstOf (o .early ++ line true (o .unknown) ∷ [])
 
-abbrev pub statusAt : One → Attributes → State → ℕ
-statusAt o a s = firstOf (o .early ++ o .late a s)
+abbrev pub refusalAt : One → Attributes → State → ℕ
+refusalAt o a s = firstOf (o .early ++ o .late a s)
 
-abbrev pub statusOne : One → Option Record → ℕ
-statusOne o none = unknownAt o
-statusOne o (some r) = statusAt o (r .attributes) (r .state)
+abbrev pub refusalOne : One → Option Record → ℕ
+refusalOne o none = unknownAt o
+refusalOne o (some r) = refusalAt o (r .attributes) (r .state)
 
 -- of an item that goes to every set of n
-abbrev pub statusAll : All → ℕ → ℕ
-statusAll a n = firstOf (a .early ++ line (ltb (a .room) (a .each * n)) tooShort ∷ [])
+abbrev pub refusalAll : All → ℕ → ℕ
+refusalAll a n = firstOf (a .early ++ line (ltb (a .room) (a .each * n)) tooShort ∷ [])
 
 abbrev pub has : ℕ → Record → Bool
 has id r = eqb (idOf r) id
 
-abbrev pub statusBy : Meaning → Card → ℕ
-statusBy (Nobody v) c = firstOf (v .early c)
-statusBy (Everybody a) c = statusAll a (length (c .sets))
-statusBy (The id o) c = statusOne o (first (has id) (c .sets))
+abbrev pub refusalBy : Meaning → Card → ℕ
+refusalBy (Nobody v) c = firstOf (v .early c)
+refusalBy (Everybody a) c = refusalAll a (length (c .sets))
+refusalBy (The id o) c = refusalOne o (first (has id) (c .sets))
 
-unfoldable pub statusOf : Card → Item → ℕ
-statusOf c i = statusBy (meaning i) c
+unfoldable pub refusalOf : Card → Item → ℕ
+refusalOf c i = refusalBy (meaning i) c
 
 -- ---- what an item does to a set that it concerns: nothing where it is refused
 
 abbrev pub effectBy : Meaning → Attributes → State → Effect
 effectBy (Nobody v) a s = still s
 effectBy (Everybody e) a s = e .rule a s
-effectBy (The id o) a s = if eqb (statusAt o a s) 0 then o .rule a s else still s
+effectBy (The id o) a s = if eqb (refusalAt o a s) 0 then o .rule a s else still s
 
 unfoldable pub effectOn : Item → Attributes → State → Effect
 effectOn i a s = effectBy (meaning i) a s
@@ -73,7 +73,7 @@ namesBy (The named o) id = eqb named id
 
 abbrev pub concernsBy : Meaning → ℕ → ℕ → Bool
 concernsBy (Nobody v) n id = false
-concernsBy (Everybody a) n id = eqb (statusAll a n) 0
+concernsBy (Everybody a) n id = eqb (refusalAll a n) 0
 concernsBy (The named o) n id = eqb named id
 
 unfoldable pub names : ℕ → Item → Bool
@@ -101,7 +101,7 @@ doneBy (Everybody a) c = granted 0 (join (map (a .part) (c .sets)))
 doneBy (The id o) c = doneOne o (first (has id) (c .sets))
 
 abbrev pub answerBy : Meaning → Card → Answer
-answerBy m c = if eqb (statusBy m c) 0 then doneBy m c else refused (statusBy m c)
+answerBy m c = if eqb (refusalBy m c) 0 then doneBy m c else refused (refusalBy m c)
 
 unfoldable pub answer : Card → Item → Answer
 answer c i = answerBy (meaning i) c

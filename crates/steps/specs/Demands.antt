@@ -16,7 +16,7 @@ use Rattle.record.specs.declared.Attributes.{Attributes}
 use Rattle.record.specs.declared.State.{State}
 use Rattle.record.specs.declared.Record.{Record}
 use Rattle.record.specs.Events.{bit, anyEnabled}
-use Rattle.replies.specs.Numbers.{badTable}
+use Rattle.replies.specs.Numbers.{success, badTable}
 use Rattle.replies.specs.declared.Reply.{Reply}
 use Rattle.replies.specs.Answers.{Answer, granted, refused, refusing}
 use Rattle.table.specs.Table.{idOf, legalSets, legalTable, written, listedMarks, recordsOf}
@@ -29,43 +29,53 @@ use Rattle.commands.specs.declared.Kind.the-variants.{SetConfig, SetWindow, Get
 use Rattle.commands.specs.Commands.{dwordSize, commandIn, kindOf, featureSet, enable, windowValue, offset, dwords}
 use Rattle.steps.specs.Commanded.{isNamed, namedBy}
 use Rattle.steps.specs.Meanings.{meaning}
-use Rattle.steps.specs.Card.{effectOn, ruled, statusOf, names, answer, step, run, trace}
+use Rattle.steps.specs.Card.{effectOn, ruled, refusalOf, names, answer, step, run, trace}
 use Rattle.steps.specs.Words.{cardOf, stepWords, Answered}
-use Rattle.steps.specs.SetUp.{newSets, setUpStatus, setUp}
+use Rattle.steps.specs.declared.Media.{Media}
+use Rattle.steps.specs.Media.{itemOf}
+use Rattle.steps.specs.Rows.{Told, commandRows, eventRows, tickRows}
+use Rattle.steps.specs.SetUp.{newSets, setUpLines, setUpStatus, setUp}
 
 -- ==== demand 1: "with success or with the one refusal that document 01 names for that input"
 
 -- "A refused call gives dword 0 as zero and no data, and changes no byte of the table": on the card, no set
 abbrev pub Refused : Type 0
 Refused =
-    (c : Card) (i : Item) → legalSets 0 (c .sets) ≡ true → (statusOf c i ≡ 0 → ⊥)
-    → (answer c i ≡ refused (statusOf c i)) × (step c i .card .sets ≡ c .sets)
+    (c : Card) (i : Item) → legalSets 0 (c .sets) ≡ true → (refusalOf c i ≡ 0 → ⊥)
+    → (answer c i ≡ refused (refusalOf c i)) × (step c i .card .sets ≡ c .sets)
 
--- and on the lent words, "however damaged": the status of an item that is handed in with them
-abbrev pub statusWords : List ℕ → Item → ℕ
-statusWords ws i = if legalTable ws then statusOf (cardOf ws) i else badTable
+-- and on the lent words, "however damaged": the refusal of an item that is handed in with them
+abbrev pub refusalWords : List ℕ → Item → ℕ
+refusalWords ws i = if legalTable ws then refusalOf (cardOf ws) i else badTable
 
 abbrev pub RefusedWords : Type 0
 RefusedWords =
-    (ws : List ℕ) (i : Item) → (statusWords ws i ≡ 0 → ⊥) → stepWords ws i ≡ record { table = ws; answer = refused (statusWords ws i) }
+    (ws : List ℕ) (i : Item) → (refusalWords ws i ≡ 0 → ⊥) → stepWords ws i ≡ record { table = ws; answer = refused (refusalWords ws i) }
 
--- "the one refusal that document 01 names for that input", exactly then: the number that is answered is that of the first row
--- that holds, and 0, success, where none does
+-- an item that is not refused answers, today, with success and no other number
+abbrev pub CarriedOut : Type 0
+CarriedOut = (c : Card) (i : Item) → refusalOf c i ≡ 0 → answer c i .status ≡ success
+
+-- "the one refusal that document 01 names for that input", exactly then: on any words, by 01's rows for commands, media events, ticks
 abbrev pub Exactly : Type 0
-Exactly = (c : Card) (i : Item) → answer c i .status ≡ statusOf c i
+Exactly =
+    (ws bytes given : List ℕ) (room : ℕ) → Told (commandRows ws bytes given room) (stepWords ws (command bytes given room) .answer .status)
 
-abbrev pub ExactlyWords : Type 0
-ExactlyWords = (ws : List ℕ) (i : Item) → stepWords ws i .answer .status ≡ statusWords ws i
+abbrev pub ExactlyEvents : Type 0
+ExactlyEvents = (ws : List ℕ) (id : ℕ) (m : Media) → Told (eventRows ws id) (stepWords ws (itemOf id m) .answer .status)
+
+abbrev pub ExactlyTicks : Type 0
+ExactlyTicks = (ws : List ℕ) (t : ℕ) → Told (tickRows ws t) (stepWords ws (tick t) .answer .status)
 
 -- "or of the answer buffer": what a command that is refused leaves of it
 abbrev pub RefusedBuffer : Type 0
 RefusedBuffer =
-    (ws : List ℕ) (i : Item) (before : List ℕ) (r : Reply) (words buffer : List ℕ) → (statusWords ws i ≡ 0 → ⊥)
-    → Answered ws i before r words buffer → (r ≡ refusing (statusWords ws i)) × (words ≡ ws) × (buffer ≡ before)
+    (ws : List ℕ) (i : Item) (before : List ℕ) (r : Reply) (words buffer : List ℕ) → (refusalWords ws i ≡ 0 → ⊥)
+    → Answered ws i before r words buffer → (r ≡ refusing (refusalWords ws i)) × (words ≡ ws) × (buffer ≡ before)
 
 -- the same of set-up, which is no item; and what it leaves where it succeeds
 abbrev pub SetUpExactly : Type 0
-SetUpExactly = (bytes ws : List ℕ) → setUp bytes ws .answer .status ≡ setUpStatus bytes (length ws)
+SetUpExactly = (bytes ws : List ℕ) → Told (setUpLines bytes (length ws)) (setUp bytes ws .answer .status)
 
 abbrev pub SetUpRefused : Type 0
 SetUpRefused =
@@ -118,7 +128,7 @@ abbrev pub NamedItems : Type 0
 NamedItems = (id : ℕ) (i : Item) → (names id i ≡ namesIn id i) × (toAll i ≡ isTick i)
 
 abbrev pub owns : Card → ℕ → Item → Bool
-owns c id i = names id i || toAll i && eqb (statusOf c i) 0
+owns c id i = names id i || toAll i && eqb (refusalOf c i) 0
 
 abbrev pub own : Card → Record → List Item → List Item
 own c r items = keep (owns c (idOf r)) items
@@ -192,14 +202,14 @@ PickedIds = (c : Card) (items : List Item) → picked (map idOf (run c items .se
 abbrev pub Aggregate : Type 0
 Aggregate =
     (c : Card) (items : List Item) (i : Item) (v : View) (page : List ℕ → Answer) → meaning i ≡ Nobody v
-    → ((d : Card) → v .done d ≡ page (picked (map idOf (d .sets)) (listedMarks (d .sets)))) → statusOf (run c items) i ≡ 0
+    → ((d : Card) → v .done d ≡ page (picked (map idOf (d .sets)) (listedMarks (d .sets)))) → refusalOf (run c items) i ≡ 0
     → answer (run c items) i ≡ page (pendingIds c items)
 
 -- page 0Bh: every read of it that is carried out
 abbrev pub AggregateLog : Type 0
 AggregateLog =
     (c : Card) (items : List Item) (bytes given : List ℕ) (room : ℕ) → kindOf (commandIn bytes) ≡ ReadAggregate
-    → statusOf (run c items) (command bytes given room) ≡ 0
+    → refusalOf (run c items) (command bytes given room) ≡ 0
     → answer (run c items) (command bytes given room)
     ≡ granted 0 (padded (aggregatePage (pendingIds c items)) (offset (commandIn bytes)) (dwords (commandIn bytes) * dwordSize))
 
@@ -268,10 +278,10 @@ configures id (command bytes given room) = stores13 (kindOf (commandIn bytes)) &
 abbrev pub ConfigStored : Type 0
 ConfigStored =
     (c : Card) (bytes given : List ℕ) (room : ℕ) (items : List Item) (bytes′ given′ : List ℕ) (room′ : ℕ)
-    → kindOf (commandIn bytes) ≡ SetConfig → statusOf c (command bytes given room) ≡ 0
+    → kindOf (commandIn bytes) ≡ SetConfig → answer c (command bytes given room) .status ≡ success
     → noneOf (configures (featureSet (commandIn bytes))) items ≡ true
     → kindOf (commandIn bytes′) ≡ GetConfig → featureSet (commandIn bytes′) ≡ featureSet (commandIn bytes)
-    → statusOf (run c (command bytes given room ∷ items)) (command bytes′ given′ room′) ≡ 0
+    → answer (run c (command bytes given room ∷ items)) (command bytes′ given′ room′) .status ≡ success
     → answer (run c (command bytes given room ∷ items)) (command bytes′ given′ room′)
     ≡ granted (bit (enable (commandIn bytes))) (configPage (configIn given))
 
@@ -285,10 +295,10 @@ reaches id i = names id i || toAll i
 abbrev pub WindowStored : Type 0
 WindowStored =
     (c : Card) (bytes given : List ℕ) (room : ℕ) (items : List Item) (bytes′ given′ : List ℕ) (room′ : ℕ)
-    → kindOf (commandIn bytes) ≡ SetWindow → statusOf c (command bytes given room) ≡ 0
+    → kindOf (commandIn bytes) ≡ SetWindow → answer c (command bytes given room) .status ≡ success
     → noneOf (reaches (featureSet (commandIn bytes))) items ≡ true
     → kindOf (commandIn bytes′) ≡ GetWindow → featureSet (commandIn bytes′) ≡ featureSet (commandIn bytes)
-    → statusOf (run c (command bytes given room ∷ items)) (command bytes′ given′ room′) ≡ 0
+    → answer (run c (command bytes given room ∷ items)) (command bytes′ given′ room′) .status ≡ success
     → answer (run c (command bytes given room ∷ items)) (command bytes′ given′ room′)
     ≡ granted (windowValue (commandIn bytes)) []
 

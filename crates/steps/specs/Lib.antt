@@ -3,6 +3,7 @@ pub mod Items
 pub mod Commanded
 pub mod Meanings
 pub mod Card
+pub mod Rows
 pub mod Words
 pub mod OnSet
 pub mod Views
