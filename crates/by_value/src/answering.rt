@@ -5,7 +5,7 @@ ghost use Prim.Native.Nat.{_≤_};
 ghost use lib.ListN.{length};
 ghost use Rattle.octets.specs.Choice.{if_then_else_};
 ghost use Rattle.record.specs.Events.{settled};
-ghost use Rattle.replies.specs.Answers.{refusing, Replied};
+ghost use Rattle.replies.specs.Answers.{refusing, done, Replied};
 ghost use Rattle.record.specs.Window.{windowNo};
 ghost use Rattle.rules.specs.Rules.{still, clearingRead};
 ghost use Rattle.pages.specs.Latency.{latencySize};
@@ -38,6 +38,13 @@ use rules::clearing_read;
 use rules::go_to_selected;
 use rules::keep_still;
 use rules::set_mode;
+
+// Carried out, with nothing to say.
+pub fn done() -> Reply
+    ensures { λ r. ⌜ r ≡ done ⌝ }
+{
+    refuse(0)
+}
 
 pub fn refuse(status: u16) -> Reply
     ensures { λ r. ⌜ r ≡ refusing status ⌝ }

@@ -1,16 +1,20 @@
 // Media events and ticks.
 ghost use mathlib.Core.Path.{_≡_};
-ghost use mathlib.Core.List.{map};
+ghost use mathlib.Core.List.{[], map};
+ghost use lib.ListN.{length};
 ghost use Rattle.rules.specs.Rules.{tick};
 ghost use Rattle.table.specs.Table.{count, Legal, recordsOf, written};
 ghost use Rattle.steps.specs.Items.{Item};
 ghost use Rattle.steps.specs.Media.{itemOf, tickOne};
-ghost use Rattle.steps.specs.Words.{Stepped};
+ghost use Rattle.steps.specs.Words.{Answered};
+use by_value::answering::done;
+use by_value::answering::refuse;
 use by_value::media::DAY_MS;
 use by_value::media::after_event;
 use by_value::media::after_tick;
 use record::SetId;
 use record::Slot;
+use replies::Reply;
 use steps::Media;
 use table::Entry;
 use table::enter;
@@ -18,35 +22,35 @@ use table::legal;
 use table::load;
 use table::store;
 
-pub fn event(table: &mut [u64], id: SetId, m: Media) -> u16
-    ensures { λ r. ⌜ Stepped (now (table .entry)) (itemOf (id .0) m) (now (table .exit)) r ⌝ }
+pub fn event(table: &mut [u64], id: SetId, m: Media) -> Reply
+    ensures { λ r. ⌜ Answered (now (table .entry)) (itemOf (id .0) m) [] r (now (table .exit)) [] ⌝ }
 {
     let e = enter(table, id);
     match e {
-        Entry::Bad => 0x07C3,
-        Entry::Unknown => 0x07C0,
+        Entry::Bad => refuse(0x07C3),
+        Entry::Unknown => refuse(0x07C0),
         Entry::Here(slot) => {
             let r = load(table, slot);
             store(table, slot, after_event(r, m));
-            0
+            done()
         }
     }
 }
 
-pub fn reads(table: &mut [u64], id: SetId, k: u16) -> u16
-    ensures { λ r. ⌜ Stepped (now (table .entry)) (Item.reads (id .0) k) (now (table .exit)) r ⌝ }
+pub fn reads(table: &mut [u64], id: SetId, k: u16) -> Reply
+    ensures { λ r. ⌜ Answered (now (table .entry)) (Item.reads (id .0) k) [] r (now (table .exit)) [] ⌝ }
 {
     event(table, id, Media::Reads(k))
 }
 
-pub fn writes(table: &mut [u64], id: SetId, k: u16) -> u16
-    ensures { λ r. ⌜ Stepped (now (table .entry)) (Item.writes (id .0) k) (now (table .exit)) r ⌝ }
+pub fn writes(table: &mut [u64], id: SetId, k: u16) -> Reply
+    ensures { λ r. ⌜ Answered (now (table .entry)) (Item.writes (id .0) k) [] r (now (table .exit)) [] ⌝ }
 {
     event(table, id, Media::Writes(k))
 }
 
-pub fn excursion(table: &mut [u64], id: SetId) -> u16
-    ensures { λ r. ⌜ Stepped (now (table .entry)) (Item.excursion (id .0)) (now (table .exit)) r ⌝ }
+pub fn excursion(table: &mut [u64], id: SetId) -> Reply
+    ensures { λ r. ⌜ Answered (now (table .entry)) (Item.excursion (id .0)) [] r (now (table .exit)) [] ⌝ }
 {
     event(table, id, Media::Excursion)
 }
@@ -63,17 +67,18 @@ fn tick_all(table: &mut [u64], n: usize, t: u32)
     }
 }
 
-pub fn ticks(table: &mut [u64], t: u32) -> u16
-    ensures { λ r. ⌜ Stepped (now (table .entry)) (Item.tick t) (now (table .exit)) r ⌝ }
+// Nothing is written to the answer buffer.
+pub fn ticks(table: &mut [u64], t: u32, answer: &mut [u8]) -> Reply
+    ensures { λ r. ⌜ Answered (now (table .entry)) (Item.tick t (length (now (answer .entry)))) (now (answer .entry)) r (now (table .exit)) (now (answer .exit)) ⌝ }
 {
     if legal(table) {
         if DAY_MS < t {
-            return 0x07C5;
+            return refuse(0x07C5);
         }
         let n = table::count_of(table);
         tick_all(table, n, t);
-        0
+        done()
     } else {
-        0x07C3
+        refuse(0x07C3)
     }
 }

@@ -1,34 +1,36 @@
 -- What a refused call leaves; and how firm each statement is: any two outcomes that it allows coincide.
 use mathlib.Core.Path.{_≡_, sym, ap, _∙_}
+use mathlib.Core.Bool.{true, false}
 use mathlib.Core.List.{List}
 use Prim.Native.Nat.{ℕ}
+use native.Mathlib.Omega.{arith}
 use lib.ListN.{length}
+use Rattle.record.specs.Events.{bit}
 use Rattle.steps.specs.Items.{Item}
+use Rattle.steps.specs.Rows.{carriedOut}
 use Rattle.steps.specs.Words.{Result, stepWords}
 use Rattle.steps.specs.SetUp.{setUp}
 use Rattle.steps.proofs.OnWords.{refused-words}
 use Rattle.steps.proofs.Exact.{answers-words, set-up-refused, set-up-answers}
 use Rattle.region.specs.Region.{tableIn, tableOut}
 use Rattle.region.proofs.Words.{own-region}
-use Rattle.card_c.specs.Entries.{EventAtC, SetUpAtC, CommandAtC}
-use Rattle.card_c.specs.Demands.{RefusedEvent, RefusedSetUp, RefusedCommand}
+use Rattle.card_c.specs.Entries.{SetUpAtC, AnsweredAtC}
+use Rattle.card_c.specs.Demands.{RefusedSetUp, RefusedItem}
 
-pub refused-event : RefusedEvent
-refused-event region i after number each e n =
-    let ws = tableIn region in
-    let d = refused-words ws i (λ z. n (e .status ∙ answers-words ws i ∙ z)) in
-    e .table ∙ ap (λ (x : Result). tableOut region (x .table)) d ∙ own-region region each
+-- success is a number of an item that was carried out
+not-success : (number : ℕ) → carriedOut number ≡ false → number ≡ 0 → ⊥
+not-success number h z = let y : _≡_ {A = ℕ} 1 0 = ap bit (sym (ap carriedOut z) ∙ h) in omega arith
 
 pub refused-set-up : RefusedSetUp
 refused-set-up bodies region after number each e n =
     let ws = tableIn region in
-    let d = set-up-refused bodies ws (λ z. n (e .status ∙ set-up-answers bodies ws ∙ z)) in
+    let d = set-up-refused bodies ws (λ z. not-success number n (e .status ∙ set-up-answers bodies ws ∙ z)) in
     e .table ∙ ap (λ (x : Result). tableOut region (x .table)) d ∙ own-region region each
 
-pub refused-command : RefusedCommand
-refused-command region i before reply₀ number after buffer said each e n =
+pub refused-item : RefusedItem
+refused-item region i before reply₀ number after buffer said each e n =
     let ws = tableIn region in
-    let d = refused-words ws i (λ z. n (e .status ∙ answers-words ws i ∙ z)) in (
+    let d = refused-words ws i (λ z. not-success number n (e .status ∙ answers-words ws i ∙ z)) in (
       e .table ∙ ap (λ (x : Result). tableOut region (x .table)) d ∙ own-region region each,
       rw d at (e .answer),
       rw d at (e .reply),
@@ -36,14 +38,11 @@ refused-command region i before reply₀ number after buffer said each e n =
 
 -- ---- firmness
 
-pub one-event : (region : List ℕ) (i : Item) (v w : List ℕ) (s t : ℕ) → EventAtC region i v s → EventAtC region i w t → (v ≡ w) × (s ≡ t)
-one-event region i v w s t h k = (h .table ∙ sym (k .table), h .status ∙ sym (k .status))
-
 pub one-set-up : (bodies region v w : List ℕ) (s t : ℕ) → SetUpAtC bodies region v s → SetUpAtC bodies region w t → (v ≡ w) × (s ≡ t)
 one-set-up bodies region v w s t h k = (h .table ∙ sym (k .table), h .status ∙ sym (k .status))
 
-pub one-command :
+pub one-item :
     (region : List ℕ) (i : Item) (before reply₀ : List ℕ) (s t : ℕ) (v w x y p q : List ℕ)
-    → CommandAtC region i before reply₀ s v x p → CommandAtC region i before reply₀ t w y q → (s ≡ t) × (v ≡ w) × (x ≡ y) × (p ≡ q)
-one-command region i before reply₀ s t v w x y p q h k =
+    → AnsweredAtC region i before reply₀ s v x p → AnsweredAtC region i before reply₀ t w y q → (s ≡ t) × (v ≡ w) × (x ≡ y) × (p ≡ q)
+one-item region i before reply₀ s t v w x y p q h k =
     (h .status ∙ sym (k .status), h .table ∙ sym (k .table), h .answer ∙ sym (k .answer), h .reply ∙ sym (k .reply))

@@ -25,10 +25,10 @@ use Rattle.region.proofs.Words.{length-in, own-region}
 use Rattle.commands.specs.declared.Command.{Command}
 use Rattle.commands.specs.declared.Kind.{Kind}
 use Rattle.steps.specs.Items.{Item}
-use Rattle.steps.specs.Words.{Stepped, Answered}
+use Rattle.steps.specs.Words.{Answered}
 use Rattle.steps.specs.OnSet.{tableOn, OnSet}
 use Rattle.steps.proofs.Frame.{here}
-use Rattle.card_c.specs.Entries.{EventAtC, replyPart, CommandAtC}
+use Rattle.card_c.specs.Entries.{replyPart, AnsweredAtC}
 use Rattle.card_c.specs.InPlace.{ruledBy, AnswerAtC, OnSetAtC}
 
 -- ---- an effect on the record of a slot
@@ -48,15 +48,17 @@ module _ (rule : Attributes → State → Effect) (r₀ r : Record) (e : Effect)
   pub is-ruled : settled r e ≡ ruledBy rule r₀
   is-ruled = rw (ee, er)
 
--- ---- events and ticks
+-- ---- from the words to the region
 
-pub event-out :
-    (region : List ℕ) (i : Item) (words after : List ℕ) (number : ℕ) → Stepped (tableIn region) i words number → after ≡ tableOut region words
-    → EventAtC region i after number
-event-out region i words after number s e = record { table = e ∙ ap (tableOut region) (s .table); status = s .status }
+pub answer-out :
+    (region : List ℕ) (i : Item) (before : List ℕ) (r : Reply) (words after buffer : List ℕ) → Answered (tableIn region) i before r words buffer → after ≡ tableOut region words
+    → AnswerAtC region i before r after buffer
+answer-out region i before r words after buffer s e = record { table = e ∙ ap (tableOut region) (s .table); reply = s .reply }
 
-pub event-same : (region : List ℕ) (i : Item) (number : ℕ) → AllBytes region → Stepped (tableIn region) i (tableIn region) number → EventAtC region i region number
-event-same region i number each s = event-out region i (tableIn region) region number s (sym (own-region region each))
+pub answer-same :
+    (region : List ℕ) (i : Item) (before : List ℕ) (r : Reply) (buffer : List ℕ) → AllBytes region → Answered (tableIn region) i before r (tableIn region) buffer
+    → AnswerAtC region i before r region buffer
+answer-same region i before r buffer each s = answer-out region i before r (tableIn region) region buffer s (sym (own-region region each))
 
 -- the slot that an item enters by
 pub entered-at : (region : List ℕ) (id : ℕ) (e : Entry) (s : Slot) → e ≡ enterIn (tableIn region) id → e ≡ Here s → LegalAt region (s .0)
@@ -79,21 +81,18 @@ pub on-in :
     → OnSet (tableIn region) slot k c given before r (tableOn (tableIn region) slot k c given (length before) (recordAt region slot)) buffer
 on-in region slot k c given before r after buffer o = record { table = refl; reply = o .reply }
 
-pub answer-out :
-    (region : List ℕ) (i : Item) (before : List ℕ) (r : Reply) (words after buffer : List ℕ) → Answered (tableIn region) i before r words buffer → after ≡ tableOut region words
-    → AnswerAtC region i before r after buffer
-answer-out region i before r words after buffer s e = record { table = e ∙ ap (tableOut region) (s .table); reply = s .reply }
-
--- a command's reply, as bytes
-pub command-at :
+-- a reply, as bytes
+pub answered-at :
     (region : List ℕ) (i : Item) (before reply₀ : List ℕ) (r : Reply) (after buffer said : List ℕ)
     → AnswerAtC region i before r after buffer → said ≡ sets reply₀ 0 (replyPart (r .dword) (r .len) (length reply₀))
-    → CommandAtC region i before reply₀ (r .status) after buffer said
-command-at region i before reply₀ r after buffer said a e =
+    → AnsweredAtC region i before reply₀ (r .status) after buffer said
+answered-at region i before reply₀ r after buffer said a e =
     let p = a .reply in
     record {
       table = a .table;
       status = p .status;
       answer = p .buffer;
+      within = rw (p .len) at (p .within);
+      part = rw (p .len) at (p .part);
       reply = e ∙ ap₂ (λ (d n : ℕ). sets reply₀ 0 (replyPart d n (length reply₀))) (p .dword) (p .len);
     }

@@ -2,29 +2,25 @@
 -- its words' little-endian bytes." What each of them promises, through the same step and the same set-up.
 use mathlib.Core.Path.{_≡_}
 use mathlib.Core.List.{List, [], _∷_}
-use Prim.Native.Nat.{ℕ, min}
+use Prim.Native.Nat.{ℕ, _≤_, min}
 use lib.ListN.{length}
 use lib.Seq.{sets}
 use Rattle.octets.specs.Octets.{padded}
 use Rattle.octets.specs.Pages.{field, place}
 use Rattle.region.specs.Region.{tableIn, tableOut}
+use Rattle.replies.specs.Answers.{cut}
 use Rattle.steps.specs.Items.{Item}
 use Rattle.steps.specs.Words.{stepWords}
 use Rattle.steps.specs.SetUp.{setUp}
-
--- a media event or a tick: the region afterwards, and the number returned
-pub record EventAtC (region : List ℕ) (i : Item) (after : List ℕ) (number : ℕ) : Type 0 where
-  pub table : after ≡ tableOut region (stepWords (tableIn region) i .table)
-  pub status : number ≡ stepWords (tableIn region) i .answer .status
 
 -- set-up
 pub record SetUpAtC (bodies region after : List ℕ) (number : ℕ) : Type 0 where
   pub table : after ≡ tableOut region (setUp bodies (tableIn region) .table)
   pub status : number ≡ setUp bodies (tableIn region) .answer .status
 
--- ---- what a command says beside its status, in a region of its own
+-- ---- what an item's call says beside its status, in a region of its own
 
--- docs/DECISIONS.md, "A command's reply to C": dword 0 at bytes 3:0, the length of data at 7:4, the rest zero
+-- docs/DECISIONS.md, "A reply to C": dword 0 at bytes 3:0, the length of data at 7:4, the rest zero
 abbrev pub replySize : ℕ
 replySize = 16
 
@@ -35,9 +31,13 @@ replyPage dword len = place replySize (field 0 4 dword ∷ field 4 4 len ∷ [])
 abbrev pub replyPart : ℕ → ℕ → ℕ → List ℕ
 replyPart dword len room = padded (replyPage dword len) 0 (min room replySize)
 
--- a command: the number returned, the region, and every byte of the answer buffer and of the reply
-pub record CommandAtC (region : List ℕ) (i : Item) (before reply₀ : List ℕ) (number : ℕ) (after buffer said : List ℕ) : Type 0 where
+-- Every item: the number returned, the region, and every byte of the answer buffer and of the reply. A media event has no answer
+-- buffer: [] before and after.
+pub record AnsweredAtC (region : List ℕ) (i : Item) (before reply₀ : List ℕ) (number : ℕ) (after buffer said : List ℕ) : Type 0 where
   pub table : after ≡ tableOut region (stepWords (tableIn region) i .table)
   pub status : number ≡ stepWords (tableIn region) i .answer .status
   pub answer : buffer ≡ sets before 0 (stepWords (tableIn region) i .answer .bytes)
+  -- the data lies within the buffer, and these bytes are the data
+  pub within : length (stepWords (tableIn region) i .answer .bytes) ≤ length buffer
+  pub part : cut buffer 0 (length (stepWords (tableIn region) i .answer .bytes)) ≡ stepWords (tableIn region) i .answer .bytes
   pub reply : said ≡ sets reply₀ 0 (replyPart (stepWords (tableIn region) i .answer .dword) (length (stepWords (tableIn region) i .answer .bytes)) (length reply₀))

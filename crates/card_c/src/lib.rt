@@ -5,9 +5,10 @@ mod reply;
 mod setting;
 mod views;
 
+ghost use mathlib.Core.List.{[]};
 ghost use lib.ListN.{length};
 ghost use Rattle.steps.specs.Items.{Item};
-ghost use Rattle.card_c.specs.Entries.{EventAtC, SetUpAtC, CommandAtC};
+ghost use Rattle.card_c.specs.Entries.{SetUpAtC, AnsweredAtC};
 use crate::media::event;
 use crate::media::ticks;
 use crate::reply::put_reply;
@@ -29,7 +30,7 @@ pub extern "C" fn card_command(
     answer: &mut [u8],
     reply: &mut [u8],
 ) -> u16
-    ensures { λ r. ⌜ CommandAtC (now (table .entry)) (Item.command (now (command .entry)) (now (given .entry)) (length (now (answer .entry)))) (now (answer .entry)) (now (reply .entry)) r (now (table .exit)) (now (answer .exit)) (now (reply .exit)) ⌝ }
+    ensures { λ r. ⌜ AnsweredAtC (now (table .entry)) (Item.command (now (command .entry)) (now (given .entry)) (length (now (answer .entry)))) (now (answer .entry)) (now (reply .entry)) r (now (table .exit)) (now (answer .exit)) (now (reply .exit)) ⌝ }
 {
     let r = crate::answering::command(table, command, given, answer);
     put_reply(reply, r.dword, r.len);
@@ -37,29 +38,42 @@ pub extern "C" fn card_command(
 }
 
 #[no_mangle]
-pub extern "C" fn card_reads(table: &mut [u8], set: u16, count: u16) -> u16
-    ensures { λ r. ⌜ EventAtC (now (table .entry)) (Item.reads set count) (now (table .exit)) r ⌝ }
+pub extern "C" fn card_reads(table: &mut [u8], set: u16, count: u16, reply: &mut [u8]) -> u16
+    ensures { λ r. ⌜ AnsweredAtC (now (table .entry)) (Item.reads set count) [] (now (reply .entry)) r (now (table .exit)) [] (now (reply .exit)) ⌝ }
 {
-    event(table, set, Media::Reads(count))
+    let r = event(table, set, Media::Reads(count));
+    put_reply(reply, r.dword, r.len);
+    r.status
 }
 
 #[no_mangle]
-pub extern "C" fn card_writes(table: &mut [u8], set: u16, count: u16) -> u16
-    ensures { λ r. ⌜ EventAtC (now (table .entry)) (Item.writes set count) (now (table .exit)) r ⌝ }
+pub extern "C" fn card_writes(table: &mut [u8], set: u16, count: u16, reply: &mut [u8]) -> u16
+    ensures { λ r. ⌜ AnsweredAtC (now (table .entry)) (Item.writes set count) [] (now (reply .entry)) r (now (table .exit)) [] (now (reply .exit)) ⌝ }
 {
-    event(table, set, Media::Writes(count))
+    let r = event(table, set, Media::Writes(count));
+    put_reply(reply, r.dword, r.len);
+    r.status
 }
 
 #[no_mangle]
-pub extern "C" fn card_excursion(table: &mut [u8], set: u16) -> u16
-    ensures { λ r. ⌜ EventAtC (now (table .entry)) (Item.excursion set) (now (table .exit)) r ⌝ }
+pub extern "C" fn card_excursion(table: &mut [u8], set: u16, reply: &mut [u8]) -> u16
+    ensures { λ r. ⌜ AnsweredAtC (now (table .entry)) (Item.excursion set) [] (now (reply .entry)) r (now (table .exit)) [] (now (reply .exit)) ⌝ }
 {
-    event(table, set, Media::Excursion)
+    let r = event(table, set, Media::Excursion);
+    put_reply(reply, r.dword, r.len);
+    r.status
 }
 
 #[no_mangle]
-pub extern "C" fn card_tick(table: &mut [u8], milliseconds: u32) -> u16
-    ensures { λ r. ⌜ EventAtC (now (table .entry)) (Item.tick milliseconds) (now (table .exit)) r ⌝ }
+pub extern "C" fn card_tick(
+    table: &mut [u8],
+    milliseconds: u32,
+    answer: &mut [u8],
+    reply: &mut [u8],
+) -> u16
+    ensures { λ r. ⌜ AnsweredAtC (now (table .entry)) (Item.tick milliseconds (length (now (answer .entry)))) (now (answer .entry)) (now (reply .entry)) r (now (table .exit)) (now (answer .exit)) (now (reply .exit)) ⌝ }
 {
-    ticks(table, milliseconds)
+    let r = ticks(table, milliseconds, answer);
+    put_reply(reply, r.dword, r.len);
+    r.status
 }

@@ -1,14 +1,16 @@
 // Media events and ticks, each on the rows that it changes, where they lie.
 ghost use mathlib.Core.Path.{_≡_};
-ghost use mathlib.Core.List.{map};
+ghost use mathlib.Core.List.{[], map};
+ghost use lib.ListN.{length};
 ghost use Rattle.record.specs.Events.{settled};
 ghost use Rattle.rules.specs.Rules.{readEvent, writeEvent, excursionEvent, tick};
 ghost use Rattle.table.specs.Table.{count, recordsOf, Legal, written};
 ghost use Rattle.region.specs.Region.{tableIn, tableOut, recordAt, withRecord, LegalAt};
 ghost use Rattle.steps.specs.Items.{Item};
 ghost use Rattle.steps.specs.Media.{mediaRule, itemOf, tickOne};
-ghost use Rattle.card_c.specs.Entries.{EventAtC};
-ghost use Rattle.card_c.specs.InPlace.{ruledAt};
+ghost use Rattle.card_c.specs.InPlace.{ruledAt, AnswerAtC};
+use by_value::answering::done;
+use by_value::answering::refuse;
 use by_value::media::DAY_MS;
 use record::Effect;
 use record::Record;
@@ -16,6 +18,7 @@ use record::SetId;
 use record::Slot;
 use record::notices::is_silent;
 use record::notices::settle;
+use replies::Reply;
 use region::load;
 use region::store_moved;
 use region::store_silent;
@@ -90,16 +93,16 @@ fn event_at(region: &mut [u8], slot: Slot, m: Media)
     }
 }
 
-pub(crate) fn event(region: &mut [u8], id: u16, m: Media) -> u16
-    ensures { λ x. ⌜ EventAtC (now (region .entry)) (itemOf id m) (now (region .exit)) x ⌝ }
+pub(crate) fn event(region: &mut [u8], id: u16, m: Media) -> Reply
+    ensures { λ x. ⌜ AnswerAtC (now (region .entry)) (itemOf id m) [] x (now (region .exit)) [] ⌝ }
 {
     let e = region::enter(region, SetId(id));
     match e {
-        Entry::Bad => 0x07C3,
-        Entry::Unknown => 0x07C0,
+        Entry::Bad => refuse(0x07C3),
+        Entry::Unknown => refuse(0x07C0),
         Entry::Here(slot) => {
             event_at(region, slot, m);
-            0
+            done()
         }
     }
 }
@@ -115,17 +118,18 @@ fn tick_all(region: &mut [u8], n: usize, t: u32)
     }
 }
 
-pub(crate) fn ticks(region: &mut [u8], t: u32) -> u16
-    ensures { λ x. ⌜ EventAtC (now (region .entry)) (Item.tick t) (now (region .exit)) x ⌝ }
+// Nothing is written to the answer buffer, of which only the length is asked.
+pub(crate) fn ticks(region: &mut [u8], t: u32, answer: &[u8]) -> Reply
+    ensures { λ x. ⌜ AnswerAtC (now (region .entry)) (Item.tick t (length (now (answer .entry)))) (now (answer .entry)) x (now (region .exit)) (now (answer .entry)) ⌝ }
 {
     if region::legal(region) {
         if DAY_MS < t {
-            return 0x07C5;
+            return refuse(0x07C5);
         }
         let n = region::count_of(region);
         tick_all(region, n, t);
-        0
+        done()
     } else {
-        0x07C3
+        refuse(0x07C3)
     }
 }

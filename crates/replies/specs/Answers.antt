@@ -30,6 +30,10 @@ answered status dword bytes = if eqb status 0 then granted dword bytes else refu
 abbrev pub refusing : ℕ → Reply
 refusing status = record { status = status; dword = 0; len = 0 }
 
+-- and to what is carried out and has nothing to say
+abbrev pub done : Reply
+done = record { status = 0; dword = 0; len = 0 }
+
 -- the part `buffer[from..to]` of a buffer
 abbrev pub cut : List ℕ → ℕ → ℕ → List ℕ
 cut buffer from to = take (to - from) (drop from buffer)

@@ -1,7 +1,7 @@
 -- Media events and ticks, from the step to the words.
 use mathlib.Core.Path.{_≡_, refl, sym, ap, _∙_}
 use mathlib.Core.Bool.{true, false}
-use mathlib.Core.List.{List, map}
+use mathlib.Core.List.{List, [], _∷_, map}
 use Prim.Native.Nat.{ℕ, _+_, _≤_, _<_}
 use native.Mathlib.Omega.{arith}
 use native.Mathlib.Nat.{zero-mul}
@@ -12,6 +12,8 @@ use Rattle.record.specs.declared.Record.{Record}
 use Rattle.record.specs.Events.{settled}
 use Rattle.record.specs.Legal.{dayMs}
 use Rattle.replies.specs.Numbers.{badTable, unknownSet, tickTooLong}
+use Rattle.replies.specs.declared.Reply.{Reply}
+use Rattle.replies.specs.Answers.{granted, refused, refusing}
 use Rattle.table.specs.declared.Entry.{Entry}
 use Rattle.table.specs.declared.Entry.the-variants.{Bad, Unknown, Here}
 use Rattle.table.specs.Layout.{wordsOf, recordOf}
@@ -23,9 +25,11 @@ use Rattle.steps.specs.Items.{Item, tick, The}
 use Rattle.steps.specs.Meanings.{event, ticked, meaning}
 use Rattle.steps.specs.Media.{itemOf, mediaRule, tickOne}
 use Rattle.steps.specs.Card.{refusalAll, refusalOf, concerns, touched, effectOn, answer}
-use Rattle.steps.specs.Words.{cardOf, Stepped}
+use Rattle.steps.specs.Words.{cardOf, stepWords, Answered}
+use Rattle.steps.specs.Lists.{join}
 use Rattle.steps.proofs.Lists.{map-same}
 use Rattle.steps.proofs.Shapes.{touched-own}
+use Rattle.steps.proofs.Carried.{refused-reply}
 use Rattle.steps.proofs.Frame.{step-bad, step-legal, step-refused, step-unknown, step-done, here}
 
 pub meaning-media : (id : ℕ) (m : Media) → meaning (itemOf id m) ≡ The id (event (mediaRule m))
@@ -34,62 +38,72 @@ meaning-media id (Reads k) = refl
 meaning-media id (Writes k) = refl
 meaning-media id Excursion = refl
 
-pub bad : (ws : List ℕ) (i : Item) → legalTable ws ≡ false → Stepped ws i ws badTable
-bad ws i e = let r = step-bad ws i e in record { table = rw r; status = rw r }
+-- ---- what an item answers that has no data: a refusal, or a success
+
+module _ (ws : List ℕ) (i : Item) (before : List ℕ) where
+  pub turned-down : (s : ℕ) (x : Reply) → stepWords ws i ≡ record { table = ws; answer = refused s } → x ≡ refusing s → Answered ws i before x ws before
+  turned-down s x d ex = record { table = rw d; reply = rw (d, ex) (refused-reply s before) }
+
+  pub carried : (vs : List ℕ) (x : Reply) → vs ≡ stepWords ws i .table → stepWords ws i .answer ≡ granted 0 [] → x ≡ refusing 0 → Answered ws i before x vs before
+  carried vs x ev ea ex = record { table = ev; reply = rw (ea, ex) (refused-reply 0 before) }
+
+  pub bad : (x : Reply) → legalTable ws ≡ false → x ≡ refusing badTable → Answered ws i before x ws before
+  bad x e ex = turned-down badTable x (step-bad ws i e) ex
 
 -- the slot that an item enters by
 pub entered : (ws : List ℕ) (id : ℕ) (e : Entry) (s : Slot) → e ≡ enterIn ws id → e ≡ Here s → rowStart (s .0 + 1) ≤ length ws
 entered ws id e s known q = let f = is-here ws id s (sym known ∙ q) in here ws id (s .0) (f .0) (f .1) .room
 
-module _ (ws : List ℕ) (id : ℕ) (m : Media) (e : Entry) (known : e ≡ enterIn ws id) where
-  pub event-bad : e ≡ Bad → Stepped ws (itemOf id m) ws badTable
-  event-bad q = bad ws (itemOf id m) (is-bad ws id (sym known ∙ q))
+module _ (ws : List ℕ) (id : ℕ) (m : Media) (e : Entry) (known : e ≡ enterIn ws id) (x : Reply) where
+  pub event-bad : e ≡ Bad → x ≡ refusing badTable → Answered ws (itemOf id m) [] x ws []
+  event-bad q ex = bad ws (itemOf id m) [] x (is-bad ws id (sym known ∙ q)) ex
 
-  pub event-unknown : e ≡ Unknown → Stepped ws (itemOf id m) ws unknownSet
-  event-unknown q =
+  pub event-unknown : e ≡ Unknown → x ≡ refusing unknownSet → Answered ws (itemOf id m) [] x ws []
+  event-unknown q ex =
       let f = is-unknown ws id (sym known ∙ q) in
-      let r = step-unknown ws (itemOf id m) id (event (mediaRule m)) (meaning-media id m) (f .0) (f .1) (λ z. omega arith) in
-      record { table = rw r; status = rw r }
+      turned-down ws (itemOf id m) [] unknownSet x (step-unknown ws (itemOf id m) id (event (mediaRule m)) (meaning-media id m) (f .0) (f .1) (λ z. omega arith)) ex
 
   module _ (s : Slot) (q : e ≡ Here s) where
     -- the record that was loaded, the record that the rule made of it, and the table that has it
     pub event-here :
-        (r x : Record) (vs : List ℕ) → r ≡ recordOf (row ws (s .0)) → x ≡ settled r (mediaRule m (r .attributes) (r .state))
-        → vs ≡ put ws (s .0) (wordsOf x) → Stepped ws (itemOf id m) vs 0
-    event-here r x vs er ex ev =
+        (r y : Record) (vs : List ℕ) → r ≡ recordOf (row ws (s .0)) → y ≡ settled r (mediaRule m (r .attributes) (r .state))
+        → vs ≡ put ws (s .0) (wordsOf y) → x ≡ refusing 0 → Answered ws (itemOf id m) [] x vs []
+    event-here r y vs er ey ev ex =
         let f = is-here ws id s (sym known ∙ q) in
         let d = step-done ws (itemOf id m) id (event (mediaRule m)) (meaning-media id m) (f .0) (s .0) (f .1) refl in
-        record { table = rw d (rw (er) at (ev ∙ ap (λ (y : Record). put ws (s .0) (wordsOf y)) ex)); status = rw d }
+        carried ws (itemOf id m) [] vs x (rw d (rw (er) at (ev ∙ ap (λ (z : Record). put ws (s .0) (wordsOf z)) ey))) (rw d) ex
 
 -- ---- ticks
 
 -- a tick of at most a day is refused on no card
-tick-status : (t n : ℕ) → t ≤ dayMs → refusalAll (ticked t) n ≡ 0
-tick-status t n h = rw (le-ltb dayMs t h, zero-mul n)
+tick-status : (t room n : ℕ) → t ≤ dayMs → refusalAll (ticked t room) n ≡ 0
+tick-status t room n h = rw (le-ltb dayMs t h, zero-mul n, le-ltb room 0 (omega arith))
 
-tick-concerns : (t n id : ℕ) → t ≤ dayMs → concerns n id (tick t) ≡ true
+tick-concerns : (t room n id : ℕ) → t ≤ dayMs → concerns n id (tick t room) ≡ true
 unfolding concerns meaning
-tick-concerns t n id h = rw (tick-status t n h)
+tick-concerns t room n id h = rw (tick-status t room n h)
 
-tick-touches : (t n : ℕ) → t ≤ dayMs → (r : Record) → touched n (tick t) r ≡ tickOne t r
+tick-touches : (t room n : ℕ) → t ≤ dayMs → (r : Record) → touched n (tick t room) r ≡ tickOne t r
 unfolding effectOn meaning
-tick-touches t n h r = touched-own n (tick t) r (tick-concerns t n (idOf r) h)
+tick-touches t room n h r = touched-own n (tick t room) r (tick-concerns t room n (idOf r) h)
 
-module _ (ws : List ℕ) (t : ℕ) (e : legalTable ws ≡ true) where
-  pub tick-long : dayMs < t → Stepped ws (tick t) ws tickTooLong
+-- no set hands out data
+no-data : (t room : ℕ) (rs : List Record) → join (map (ticked t room .part) rs) ≡ []
+no-data t room [] = refl
+no-data t room (r ∷ rs) = no-data t room rs
+
+module _ (ws : List ℕ) (t : ℕ) (before : List ℕ) (x : Reply) (e : legalTable ws ≡ true) where
+  pub tick-long : dayMs < t → x ≡ refusing tickTooLong → Answered ws (tick t (length before)) before x ws before
   unfolding refusalOf meaning
-  tick-long h =
-      let r = step-refused ws (tick t) tickTooLong e (rw (lt-ltb dayMs t h)) (λ z. omega arith) in
-      record { table = rw r; status = rw r }
+  tick-long h ex = turned-down ws (tick t (length before)) before tickTooLong x (step-refused ws (tick t (length before)) tickTooLong e (rw (lt-ltb dayMs t h)) (λ z. omega arith)) ex
 
-  tick-answer : t ≤ dayMs → answer (cardOf ws) (tick t) .status ≡ 0
+  tick-answer : t ≤ dayMs → answer (cardOf ws) (tick t (length before)) ≡ granted 0 []
   unfolding answer meaning
-  tick-answer h = rw (tick-status t (length (recordsOf ws)) h)
+  tick-answer h = rw (tick-status t (length before) (length (recordsOf ws)) h, no-data t (length before) (recordsOf ws))
 
-  pub tick-done : t ≤ dayMs → (vs : List ℕ) → vs ≡ written ws (map (tickOne t) (recordsOf ws)) → Stepped ws (tick t) vs 0
-  tick-done h vs ev =
-      let r = step-legal ws (tick t) e in
-      record {
-        table = ev ∙ rw r (ap (written ws) (sym (map-same _ _ (tick-touches t (length (recordsOf ws)) h) (recordsOf ws))));
-        status = rw r (sym (tick-answer h));
-      }
+  pub tick-done : t ≤ dayMs → (vs : List ℕ) → vs ≡ written ws (map (tickOne t) (recordsOf ws)) → x ≡ refusing 0 → Answered ws (tick t (length before)) before x vs before
+  tick-done h vs ev ex =
+      let r = step-legal ws (tick t (length before)) e in
+      carried ws (tick t (length before)) before vs x
+          (ev ∙ rw r (ap (written ws) (sym (map-same _ _ (tick-touches t (length before) (length (recordsOf ws)) h) (recordsOf ws)))))
+          (rw r (tick-answer h)) ex

@@ -7,7 +7,7 @@ use mathlib.Core.Logic.{_⊎_, ⊎-elim}
 use Prim.Native.Nat.{ℕ}
 use native.Mathlib.Omega.{arith}
 use native.Mathlib.Nat.{zero-mul}
-use borrow.Author.Tests.{eqb-true, ne-eqb}
+use borrow.Author.Tests.{eqb-true, ne-eqb, le-ltb}
 use lib.Dec.{eqb}
 use lib.ListN.{length}
 use Rattle.octets.specs.Choice.{if_then_else_}
@@ -35,7 +35,7 @@ use Rattle.steps.specs.Card.{has, unknownAt, refusalOne, refusalBy, refu
 use Rattle.steps.specs.Rows.{setIn, isThere, ofSet, commandRows, eventRows, tickRows, carriedOut, Told}
 use Rattle.steps.specs.Words.{cardOf, stepWords}
 use Rattle.steps.specs.SetUp.{setUpLines, setUpStatus, setUp}
-use Rattle.steps.specs.Demands.{refusalWords, CarriedOut, Exactly, ExactlyEvents, ExactlyTicks, RefusedBuffer, SetUpExactly, SetUpRefused, SetUpLegal}
+use Rattle.steps.specs.Demands.{refusalWords, CarriedOut, Exactly, ExactlyEvents, ExactlyTicks, RefusedBuffer, RefusedHanded, SetUpExactly, SetUpRefused, SetUpLegal}
 use Rattle.steps.proofs.OnWords.{refused-words}
 use Rattle.steps.proofs.Carried.{refused-reply}
 use Rattle.steps.proofs.NewSets.{done, notDone, legal-set-up}
@@ -69,7 +69,7 @@ unfolding meaning
 succeeds (reads id k) = ((λ z. omega arith), λ r. refl)
 succeeds (writes id k) = ((λ z. omega arith), λ r. refl)
 succeeds (excursion id) = ((λ z. omega arith), λ r. refl)
-succeeds (tick t) = tt
+succeeds (tick t room) = tt
 succeeds (command bytes given room) = command-succeeds bytes given room
 
 -- a success of status 0, or the refusal
@@ -195,13 +195,13 @@ event-rows ws id m false e = rw e
 pub exactly-events : ExactlyEvents
 exactly-events ws id m = told (eventRows ws id) _ refl (answers-words ws (itemOf id m) ∙ event-rows ws id m (legalTable ws) refl)
 
-tick-rows : (ws : List ℕ) (t : ℕ) (b : Bool) → legalTable ws ≡ b → refusalWords ws (tick t) ≡ firstOf (tickRows ws t)
+tick-rows : (ws : List ℕ) (t room : ℕ) (b : Bool) → legalTable ws ≡ b → refusalWords ws (tick t room) ≡ firstOf (tickRows ws t)
 unfolding refusalOf meaning
-tick-rows ws t true e = rw (e, zero-mul (length (recordsOf ws)))
-tick-rows ws t false e = rw e
+tick-rows ws t room true e = rw (e, zero-mul (length (recordsOf ws)), le-ltb room 0 (omega arith))
+tick-rows ws t room false e = rw e
 
 pub exactly-ticks : ExactlyTicks
-exactly-ticks ws t = told (tickRows ws t) _ refl (answers-words ws (tick t) ∙ tick-rows ws t (legalTable ws) refl)
+exactly-ticks ws t room = told (tickRows ws t) _ refl (answers-words ws (tick t room) ∙ tick-rows ws t room (legalTable ws) refl)
 
 -- ---- the answer buffer of a refused command
 
@@ -212,6 +212,11 @@ refused-buffer ws i before r words buffer n h =
     let p : Replied (refused s) before r buffer = rw d at (h .reply) in
     let o = one-outcome (refused s) before buffer before r (refusing s) p (refused-reply s before) in
     (o .0, rw d at (h .table), o .1)
+
+pub refused-handed : RefusedHanded
+refused-handed ws i words status dword part n h =
+    let d = refused-words ws i n in
+    (rw d at (h .status-is), rw d at (h .dword-is), rw d at (h .part-is), rw d at (h .table))
 
 -- ---- set-up
 

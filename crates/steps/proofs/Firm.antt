@@ -5,18 +5,14 @@ use Prim.Native.Nat.{ℕ}
 use Rattle.replies.specs.declared.Reply.{Reply}
 use Rattle.replies.proofs.Answering.{one-outcome}
 use Rattle.steps.specs.Items.{Item}
-use Rattle.steps.specs.Words.{stepWords, Stepped, Answered, Handed}
+use Rattle.steps.specs.Words.{stepWords, Answered, Handed}
 use Rattle.steps.specs.SetUp.{SetUp}
-
--- media events and ticks
-pub stepped : (ws : List ℕ) (i : Item) (v w : List ℕ) (s t : ℕ) → Stepped ws i v s → Stepped ws i w t → (v ≡ w) × (s ≡ t)
-stepped ws i v w s t h k = (h .table ∙ sym (k .table), h .status ∙ sym (k .status))
 
 -- set-up
 pub set-up : (bytes ws v w : List ℕ) (s t : ℕ) → SetUp bytes ws v s → SetUp bytes ws w t → (v ≡ w) × (s ≡ t)
 set-up bytes ws v w s t h k = (h .table ∙ sym (k .table), h .status ∙ sym (k .status))
 
--- commands: the words, the reply and every byte of the answer buffer
+-- every item: the words, the reply and every byte of the answer buffer
 pub answered :
     (ws : List ℕ) (i : Item) (before : List ℕ) (r q : Reply) (v w x y : List ℕ) → Answered ws i before r v x → Answered ws i before q w y
     → (v ≡ w) × (r ≡ q) × (x ≡ y)

@@ -60,7 +60,7 @@ unfolding meaning
 sound (reads id k) = λ a s z. read-event-keeps k a s
 sound (writes id k) = λ a s z. write-event-keeps k a s
 sound (excursion id) = λ a s z. excursion-keeps a s
-sound (tick t) = tick-keeps t
+sound (tick t room) = tick-keeps t
 sound (command bytes given room) = command-sound bytes given room
 
 effect-kept : (m : Meaning) → Sound m → KeepsState (effectBy m)

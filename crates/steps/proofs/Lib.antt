@@ -15,7 +15,6 @@ pub mod Carried
 pub mod Naming
 pub mod Whole
 pub mod Viewing
-pub mod Plain
 pub mod Firm
 pub mod Exact
 pub mod Idle

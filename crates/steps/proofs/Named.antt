@@ -30,5 +30,5 @@ unfolding names toAll meaning commandMeaning
 named-items id (reads named k) = (refl, refl)
 named-items id (writes named k) = (refl, refl)
 named-items id (excursion named) = (refl, refl)
-named-items id (tick t) = (refl, refl)
+named-items id (tick t room) = (refl, refl)
 named-items id (command bytes given room) = by-kind (kindOf (commandIn bytes)) (commandIn bytes) given room id

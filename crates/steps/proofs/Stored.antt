@@ -146,7 +146,7 @@ unfolding meaning
 mild id (reads named k) h = λ e a s. by-window (s .window) s _ _ _ (same s) (charge-kept Reads k a s) (same s)
 mild id (writes named k) h = λ e a s. by-window (s .window) s _ _ _ (same s) (charge-kept Writes k a s) (same s)
 mild id (excursion named) h = λ e a s. by-window (s .window) s _ _ _ (same s) (record { mode = excursion-mode (s .window); config = refl }) (same s)
-mild id (tick t) h = λ a s. by-window (s .window) s _ _ _ (same s) (charge-kept Time t a s) (record { mode = refl; config = refl })
+mild id (tick t room) h = λ a s. by-window (s .window) s _ _ _ (same s) (charge-kept Time t a s) (record { mode = refl; config = refl })
 mild id (command bytes given room) h = command-mild id bytes given room h
 
 effect-mild : (id n : ℕ) (m : Meaning) → Mild id m → concernsBy m n id ≡ true → (a : Attributes) (s : State) → Kept s (effectBy m a s .state)

@@ -30,7 +30,7 @@ use Rattle.commands.specs.Commands.{dwordSize, commandIn, kindOf, featureSet, e
 use Rattle.steps.specs.Commanded.{isNamed, namedBy}
 use Rattle.steps.specs.Meanings.{meaning}
 use Rattle.steps.specs.Card.{effectOn, ruled, refusalOf, names, answer, step, run, trace}
-use Rattle.steps.specs.Words.{cardOf, stepWords, Answered}
+use Rattle.steps.specs.Words.{cardOf, stepWords, Answered, Handed}
 use Rattle.steps.specs.declared.Media.{Media}
 use Rattle.steps.specs.Media.{itemOf}
 use Rattle.steps.specs.Rows.{Told, commandRows, eventRows, tickRows}
@@ -65,13 +65,19 @@ abbrev pub ExactlyEvents : Type 0
 ExactlyEvents = (ws : List ℕ) (id : ℕ) (m : Media) → Told (eventRows ws id) (stepWords ws (itemOf id m) .answer .status)
 
 abbrev pub ExactlyTicks : Type 0
-ExactlyTicks = (ws : List ℕ) (t : ℕ) → Told (tickRows ws t) (stepWords ws (tick t) .answer .status)
+ExactlyTicks = (ws : List ℕ) (t room : ℕ) → Told (tickRows ws t) (stepWords ws (tick t room) .answer .status)
 
--- "or of the answer buffer": what a command that is refused leaves of it
+-- "or of the answer buffer": what an item that is refused leaves of it
 abbrev pub RefusedBuffer : Type 0
 RefusedBuffer =
     (ws : List ℕ) (i : Item) (before : List ℕ) (r : Reply) (words buffer : List ℕ) → (refusalWords ws i ≡ 0 → ⊥)
     → Answered ws i before r words buffer → (r ≡ refusing (refusalWords ws i)) × (words ≡ ws) × (buffer ≡ before)
+
+-- of the call that hands back the written part: no part
+abbrev pub RefusedHanded : Type 0
+RefusedHanded =
+    (ws : List ℕ) (i : Item) (words : List ℕ) (status dword : ℕ) (part : List ℕ) → (refusalWords ws i ≡ 0 → ⊥) → Handed ws i words status dword part
+    → (status ≡ refusalWords ws i) × (dword ≡ 0) × (part ≡ []) × (words ≡ ws)
 
 -- the same of set-up, which is no item; and what it leaves where it succeeds
 abbrev pub SetUpExactly : Type 0
@@ -113,7 +119,7 @@ abbrev pub namesIn : ℕ → Item → Bool
 namesIn id (reads named k) = eqb named id
 namesIn id (writes named k) = eqb named id
 namesIn id (excursion named) = eqb named id
-namesIn id (tick t) = false
+namesIn id (tick t room) = false
 namesIn id (command bytes given room) =
     isNamed (kindOf (commandIn bytes)) && eqb (namedBy (kindOf (commandIn bytes)) (commandIn bytes)) id
 
@@ -121,7 +127,7 @@ abbrev pub isTick : Item → Bool
 isTick (reads named k) = false
 isTick (writes named k) = false
 isTick (excursion named) = false
-isTick (tick t) = true
+isTick (tick t room) = true
 isTick (command bytes given room) = false
 
 abbrev pub NamedItems : Type 0
@@ -270,7 +276,7 @@ abbrev pub configures : ℕ → Item → Bool
 configures id (reads named k) = false
 configures id (writes named k) = false
 configures id (excursion named) = false
-configures id (tick t) = false
+configures id (tick t room) = false
 configures id (command bytes given room) = stores13 (kindOf (commandIn bytes)) && eqb (featureSet (commandIn bytes)) id
 
 -- "Get returns enable with the 512 bytes": those of the last Set Features 13h of the set, whatever other items came between.

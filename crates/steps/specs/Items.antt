@@ -12,13 +12,13 @@ use Rattle.replies.specs.Answers.{Answer}
 pub record Card : Type 0 where
   pub sets : List Record
 
--- what may be handed in: media events, ticks, and commands, each with its data in and the length of the answer buffer
--- ("The length of a lent buffer is part of its item.")
+-- what may be handed in: media events; ticks, each with the length of its answer buffer; and commands, each with its data in and the
+-- length of its answer buffer ("The length of a lent buffer is part of its item.")
 pub data Item : Type 0 where
   reads : (id k : ℕ) → Item
   writes : (id k : ℕ) → Item
   excursion : (id : ℕ) → Item
-  tick : (t : ℕ) → Item
+  tick : (t room : ℕ) → Item
   command : (bytes given : List ℕ) (room : ℕ) → Item
 
 -- An item that names a set: the refusals before the look-up, the number for a set that is not in the table, the refusals

@@ -17,15 +17,14 @@ use Rattle.steps.specs.Items.{Item, reads, writes, excursion, tick, comm
 abbrev pub event : (Attributes → State → Effect) → One
 event rule = record { early = []; unknown = unknownSet; late = λ a s. []; rule = rule; done = λ r. granted 0 [] }
 
--- 01: "tick too long 07C5h". "A tick .. goes to every set." It hands out no data, so that
--- the row for want of room never holds.
-abbrev pub ticked : ℕ → All
-ticked t =
-    record { early = line (ltb dayMs t) tickTooLong ∷ []; each = 0; room = 0; rule = rules.tick t; part = λ r. [] }
+-- 01: "tick too long 07C5h". "A tick .. goes to every set." It hands out no data and so asks for no room.
+abbrev pub ticked : ℕ → ℕ → All
+ticked t room =
+    record { early = line (ltb dayMs t) tickTooLong ∷ []; each = 0; room = room; rule = rules.tick t; part = λ r. [] }
 
 unfoldable pub meaning : Item → Meaning
 meaning (reads id k) = The id (event (rules.readEvent k))
 meaning (writes id k) = The id (event (rules.writeEvent k))
 meaning (excursion id) = The id (event (λ a s. rules.excursionEvent s))
-meaning (tick t) = Everybody (ticked t)
+meaning (tick t room) = Everybody (ticked t room)
 meaning (command bytes given room) = commandMeaning bytes given room

@@ -26,13 +26,8 @@ stepWords ws i =
     then record { table = written ws (step (cardOf ws) i .card .sets); answer = step (cardOf ws) i .answer }
     else record { table = ws; answer = refused badTable }
 
--- What a media event or a tick promises: the words that it leaves, and the number that it answers.
--- (Its dword 0 is zero and it has no data: `plain` and `plain-tick` of proofs/Plain.antt.)
-pub record Stepped (ws : List ℕ) (i : Item) (after : List ℕ) (number : ℕ) : Type 0 where
-  pub table : after ≡ stepWords ws i .table
-  pub status : number ≡ stepWords ws i .answer .status
-
--- What a command promises: the words that it leaves, its reply, and every byte of the answer buffer.
+-- What every item promises: the words that it leaves, its reply (status, dword 0 and length of data), and every byte of the answer
+-- buffer. A media event has no buffer: [] before and after.
 pub record Answered (ws : List ℕ) (i : Item) (before : List ℕ) (r : Reply) (words buffer : List ℕ) : Type 0 where
   pub table : words ≡ stepWords ws i .table
   pub reply : Replied (stepWords ws i .answer) before r buffer

@@ -1,5 +1,5 @@
 use borrow.Author.Needs.{needs}
-use Rattle.card_c.proofs.Region.{command-at}
+use Rattle.card_c.proofs.Region.{answered-at}
 use Rattle.card_c.proofs.card_command.Statement.{statement}
 use Rattle.card_c.proofs.card_command.Tie as tie
 
@@ -12,4 +12,4 @@ card-command-spec =
     (λ c. search needs)
     (λ c. search needs)
     (λ c. search needs)
-    (λ c. command-at _ _ _ _ _ _ _ _ (c .before .before .before .before .before .before .before .before .command .ensures) (c .before .before .put-reply .ensures)))
+    (λ c. answered-at _ _ _ _ _ _ _ _ (c .before .before .before .before .before .before .before .before .command .ensures) (c .before .before .put-reply .ensures)))
