@@ -1,7 +1,7 @@
 // Takes calls of the two functions over references from standard input, and writes what each answered and left (`streams` says
-// how): set-up from a lent list of three sets or of 31, whose bodies are the data; and reads, writes and excursions of one lent record,
-// whose row is the table. It has no case of its own: rust/ makes the calls, and holds what is written to the model. Any other call
-// is answered with FFFFh.
+// how): set-up from a lent list of three sets or of 31, whose bodies are the data; and reads, writes and excursions of one lent
+// record, whose row is the table. It has no case of its own: rust/ makes the calls, and holds what is written to the model. Set-up
+// from another number of bodies is answered with FFFFh.
 use by_reference::callers::charge_lent;
 use by_reference::callers::set_up_full;
 use by_reference::callers::set_up_three;
