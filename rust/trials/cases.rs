@@ -302,17 +302,24 @@ impl<'a> Cases<'a> {
         page
     }
 
-    /// Whether the model and the one that is held answer and leave just that.
+    /// Whether the model and the one that is held answer and leave just that. A command is given twice: `calling` carries it out
+    /// by two functions, in turn.
     fn check(&mut self, call: &Call, expected: Outcome) -> Tried {
-        self.done += 1;
-        let theirs = self.taker.outcomes(std::slice::from_ref(call)).remove(0);
-        for (whose, outcome) in [("model", MODEL.outcome(call)), (self.name, theirs)] {
-            if outcome != expected {
-                call.print(&[("the case", &expected), (whose, &outcome)]);
-                return Err(format!("{} does something else than the case", whose));
-            }
+        self.compare("model", call, &expected, MODEL.outcome(call))?;
+        for _ in 0..if call.function == Function::Command { 2 } else { 1 } {
+            self.done += 1;
+            let theirs = self.taker.outcomes(std::slice::from_ref(call)).remove(0);
+            self.compare(self.name, call, &expected, theirs)?;
         }
         Ok(())
+    }
+
+    fn compare(&self, whose: &str, call: &Call, expected: &Outcome, outcome: Outcome) -> Tried {
+        if outcome == *expected {
+            return Ok(());
+        }
+        call.print(&[("the case", expected), (whose, &outcome)]);
+        Err(format!("{} does something else than the case", whose))
     }
 }
 

@@ -1,4 +1,4 @@
-//! Random calls of the two functions over references: set-up from a list of three sets, and events of one lent record.
+//! Random calls of the two functions over references: set-up from a list of three sets or of 31, and events of one lent record.
 
 use crate::calls::{Call, Function, Outcome, Takes};
 use crate::damage::{damage_bodies, damage_table};
@@ -7,12 +7,11 @@ use crate::holding::first_difference;
 use crate::random::Random;
 use crate::samples::{self, Item};
 use model::layout::field::{IDENTIFIER, LISTED, WINDOW};
-use model::layout::{read_row, read_table, table_bytes, word_of, BODY_BYTES, HEADER_BYTES};
+use model::layout::{read_row, read_table, table_bytes, word_of, BODY_BYTES, HEADER_BYTES, MAX_SETS};
 use model::set::{Set, EVENT_MASK};
 use model::status;
 use std::collections::BTreeMap;
 
-const LIST: usize = 3;
 const BATCH: u64 = 100;
 
 /// What must be met, each in one call of a thousand.
@@ -110,15 +109,16 @@ fn has_known_bits(set: &Set) -> bool {
 }
 
 fn set_up(random: &Random) -> Call {
-    let needed = table_bytes(LIST);
+    let sets = random.pick(&[3, 3, MAX_SETS]);
+    let needed = table_bytes(sets);
     let length = random.pick(&[needed, needed, needed + 8 * random.place(40), random.place(needed)]);
     let bodies = loop {
         let mut bodies = samples::bodies(random);
-        bodies.truncate(LIST * BODY_BYTES);
+        bodies.truncate(sets * BODY_BYTES);
         if random.once_in(2) {
             damage_bodies(random, &mut bodies);
         }
-        if bodies.len() == LIST * BODY_BYTES {
+        if bodies.len() == sets * BODY_BYTES {
             break bodies;
         }
     };

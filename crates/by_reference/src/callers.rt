@@ -9,6 +9,7 @@ use crate::records::Charged;
 use crate::records::charge;
 use record::Attributes;
 use record::Record;
+use record::legal::MAX_SETS;
 use steps::Media;
 
 // A copy is lent.
@@ -27,5 +28,12 @@ pub fn set_up_three(table: &mut [u64], a: Attributes, b: Attributes, c: Attribut
     ensures { λ r. ⌜ SetUp (bodiesOf (a ∷ b ∷ c ∷ [])) (now (table .entry)) (now (table .exit)) r ⌝ }
 {
     let list = [a, b, c];
+    set_up(table, &list)
+}
+
+// The longest list that can be set up.
+pub fn set_up_full(table: &mut [u64], list: [Attributes; MAX_SETS]) -> u16
+    ensures { λ r. ⌜ SetUp (bodiesOf list) (now (table .entry)) (now (table .exit)) r ⌝ }
+{
     set_up(table, &list)
 }

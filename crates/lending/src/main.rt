@@ -1,10 +1,14 @@
 // Takes calls of the two functions over references from standard input, and writes what each answered and left (`streams` says
-// how): set-up from a lent list of three sets, whose bodies are the data; and reads, writes and excursions of one lent record,
-// whose row is the table. It has no case of its own: rust/ makes the calls, and holds what is written to the model. Any other call
-// is answered with FFFFh.
+// how): set-up from a lent list of three sets or of 31, whose bodies are the data; and reads, writes and excursions of one lent
+// record, whose row is the table. It has no case of its own: rust/ makes the calls, and holds what is written to the model. Set-up
+// from another number of bodies is answered with FFFFh.
 use by_reference::callers::charge_lent;
+use by_reference::callers::set_up_full;
 use by_reference::callers::set_up_three;
+use card::setting::BODY;
 use pages::bodies::attributes_in;
+use record::Attributes;
+use record::legal::MAX_SETS;
 use steps::Media;
 use streams::HEAD;
 use streams::count_in;
@@ -24,8 +28,10 @@ const WORDS: usize = 1024;
 
 const BYTES: usize = 8192;
 
-// The bodies of three sets.
-const DATA: usize = 252;
+// The bodies of 31 sets, and of three.
+const DATA: usize = MAX_SETS * BODY;
+
+const THREE: usize = 3 * BODY;
 
 fn media_in(head: &[u8; HEAD], kind: u64) -> Media {
     if kind == 3 {
@@ -58,12 +64,33 @@ fn charge(table: &mut [u64], m: Media) -> u16 {
     c.status
 }
 
+fn attributes_at(bodies: &[u8], i: usize) -> Attributes {
+    if i < bodies.len() / BODY {
+        return attributes_in(bodies, i * BODY);
+    }
+    attributes_in(&[0u8; BODY], 0)
+}
+
+fn list_in(bodies: &[u8]) -> [Attributes; MAX_SETS] {
+    let mut list = [attributes_at(bodies, 0); MAX_SETS];
+    let mut i = 0;
+    while i < MAX_SETS {
+        list[i] = attributes_at(bodies, i);
+        i += 1;
+    }
+    list
+}
+
 fn set_up(table: &mut [u64], bodies: &[u8]) -> u16 {
-    if bodies.len() == DATA {
-        let a = attributes_in(bodies, 0);
-        let b = attributes_in(bodies, 84);
-        let c = attributes_in(bodies, 168);
+    let n = bodies.len();
+    if n == THREE {
+        let a = attributes_at(bodies, 0);
+        let b = attributes_at(bodies, 1);
+        let c = attributes_at(bodies, 2);
         return set_up_three(table, a, b, c);
+    }
+    if n == DATA {
+        return set_up_full(table, list_in(bodies));
     }
     0xFFFF
 }
