@@ -3,12 +3,13 @@
  *
  * The card's whole state is one region of bytes, the table, which the caller owns, keeps and lends to each call. The library
  * holds nothing between calls, takes no memory of its own, starts no thread and prints nothing. Tables are independent: calls
- * on different tables may run at the same time. It is x86-64 code and needs memcpy and memset and nothing else. A call of card_command
- * takes at most CARD_COMMAND_STACK_BYTES of stack, a call of any other at most CARD_STACK_BYTES.
+ * on different tables may run at the same time. It is x86-64 code that uses the SSE2 registers and the red zone, and needs memcpy and
+ * memset and nothing else. A call of card_command takes at most CARD_COMMAND_STACK_BYTES of stack, a call of any other at most
+ * CARD_STACK_BYTES.
  *
- * Every function takes any bytes whatever. It returns CARD_OK, or the one number below that says why it refused; a refused
- * call changes no byte of the table and no byte of the answer buffer. All numbers in the regions are little-endian, and no
- * region needs any alignment.
+ * Every function takes any bytes whatever. It carries out what is asked, or returns the one number below that says why it refused
+ * (CARD_IS_REFUSAL); a refused call changes no byte of the table and no byte of the answer buffer. What was carried out may have changed
+ * the table, whatever its number. All numbers in the regions are little-endian, and no region needs any alignment.
  *
  * Regions that are lent to one call must not overlap. A pointer may be NULL where its length is 0.
  *
@@ -30,6 +31,10 @@ extern "C" {
 
 #define CARD_OK 0x0000u
 
+/* Whether a number that a function returned is a refusal. Ask this and not whether it is CARD_OK: a later version may answer what
+ * was carried out with another number. */
+#define CARD_IS_REFUSAL(number) ((number) != CARD_OK)
+
 /* what a command may be refused with */
 #define CARD_BAD_TABLE 0x07C3u        /* the table is not legal, or its region is too short; events and ticks too */
 #define CARD_BAD_COMMAND 0x07C7u      /* the command has not 64 bytes */
@@ -47,6 +52,29 @@ extern "C" {
 #define CARD_LONG_TICK 0x07C5u   /* a tick of more than CARD_MAX_TICK ms */
 #define CARD_BAD_SET_UP 0x07C4u  /* the number of sets, their order, an attribute or the length of the bodies is wrong */
 
+/* opcodes, features, log pages and the list that Identify gives */
+#define CARD_GET_LOG_PAGE 0x02u
+#define CARD_IDENTIFY 0x06u
+#define CARD_SET_FEATURES 0x09u
+#define CARD_GET_FEATURES 0x0Au
+#define CARD_FEATURE_CONFIG 0x13u /* Predictable Latency Mode Config */
+#define CARD_FEATURE_WINDOW 0x14u /* Predictable Latency Mode Window */
+#define CARD_PAGE_LATENCY 0x0Au   /* Predictable Latency Per NVM Set, 512 bytes */
+#define CARD_PAGE_AGGREGATE 0x0Bu /* Predictable Latency Event Aggregate, 72 bytes */
+#define CARD_CNS_SET_LIST 0x04u   /* NVM Set List, 4,096 bytes */
+
+/* windows, as feature 14h takes and gives them and page 0Ah shows them */
+#define CARD_WINDOW_NONE 0u /* the mode is off */
+#define CARD_WINDOW_D 1u    /* deterministic */
+#define CARD_WINDOW_N 2u    /* non-deterministic */
+
+/* event bits, in ENEV as in the event type */
+#define CARD_EVENT_READS 0x0001u     /* the reads left fell below their threshold */
+#define CARD_EVENT_WRITES 0x0002u    /* the writes left did */
+#define CARD_EVENT_TIME 0x0004u      /* the time left did */
+#define CARD_EVENT_EXCEEDED 0x4000u  /* a typical was exceeded, or the time is up */
+#define CARD_EVENT_EXCURSION 0x8000u /* the set could not be kept deterministic */
+
 #define CARD_MAX_SETS 31
 #define CARD_MAX_TICK 86400000u /* one day, in ms */
 
@@ -54,7 +82,12 @@ extern "C" {
 #define CARD_CONFIG_BYTES 512  /* the data of feature 13h */
 #define CARD_ANSWER_BYTES 4096 /* an answer buffer of so many bytes is never too short */
 #define CARD_BODY_BYTES 84     /* one set's attributes, for set-up */
-#define CARD_REPLY_BYTES 16    /* what card_command says beside its status */
+#define CARD_REPLY_BYTES 16    /* what a call says beside its status */
+
+/* where in a reply: dword 0 of the completion (4 bytes), how many bytes of data stand in the answer buffer (4), zeros (8) */
+#define CARD_REPLY_DWORD_0 0
+#define CARD_REPLY_LENGTH 4
+#define CARD_REPLY_RESERVED 8
 
 #define CARD_COMMAND_STACK_BYTES 5632 /* of card_command, with all that it calls but memcpy and memset */
 #define CARD_STACK_BYTES 768          /* of any other function, likewise */
@@ -85,9 +118,10 @@ uint16_t card_set_up(uint8_t *table, size_t table_len, const uint8_t *bodies, si
  *          nothing is read.
  * answer:  room for what the command carries to the host. The data is written to its start; the bytes after it keep what
  *          they held, and so does the whole buffer where the command has no data or is refused.
- * reply:   CARD_REPLY_BYTES bytes that are written by every call, refused or not: bytes 3:0 dword 0 of the completion,
- *          bytes 7:4 how many bytes of data stand in the answer buffer, bytes 15:8 zero. A shorter region gets as many of them
- *          as it has room for; bytes after the sixteenth keep what they held.
+ * reply:   CARD_REPLY_BYTES bytes that are written by every call, refused or not, as CARD_REPLY_DWORD_0 and so on say; of a refusal
+ *          they are zeros. A shorter region gets as many of them as it has room for, and the call is carried out all the same: so with
+ *          fewer than CARD_REPLY_BYTES the length of what a clearing read has shown, and what a later version says there, is lost.
+ *          Bytes after the sixteenth keep what they held.
  *
  * A successful read of page 0Ah without Retain Asynchronous Event clears that set's events, and its entry on page 0Bh.
  * Returns the status.
@@ -101,18 +135,23 @@ uint16_t card_command(uint8_t *table, size_t table_len, const uint8_t *command, 
  *
  * card_reads, card_writes: count more 4 KiB reads, or writes of the optimal size, were done.
  * card_excursion: the set could not be kept deterministic.
+ * reply: as of card_command. Dword 0 and the length are zero.
  * Each returns CARD_OK, CARD_BAD_TABLE or CARD_UNKNOWN_SET.
  */
-uint16_t card_reads(uint8_t *table, size_t table_len, uint16_t set, uint16_t count);
-uint16_t card_writes(uint8_t *table, size_t table_len, uint16_t set, uint16_t count);
-uint16_t card_excursion(uint8_t *table, size_t table_len, uint16_t set);
+uint16_t card_reads(uint8_t *table, size_t table_len, uint16_t set, uint16_t count, uint8_t *reply, size_t reply_len);
+uint16_t card_writes(uint8_t *table, size_t table_len, uint16_t set, uint16_t count, uint8_t *reply, size_t reply_len);
+uint16_t card_excursion(uint8_t *table, size_t table_len, uint16_t set, uint8_t *reply, size_t reply_len);
 
 /*
  * So many milliseconds have gone by, for every set of the card. In the deterministic window, time at or past its maximum ends the
  * window and sets event bit 14, and the excess counts as time outside it, which stops at minimum high.
+ * A tick of 0 ms changes nothing: it tests whether a table is legal.
+ *
+ * answer, reply: as of card_command. Nothing is written to the answer buffer; dword 0 and the length are zero.
  * Returns CARD_OK, CARD_BAD_TABLE or CARD_LONG_TICK.
  */
-uint16_t card_tick(uint8_t *table, size_t table_len, uint32_t milliseconds);
+uint16_t card_tick(uint8_t *table, size_t table_len, uint32_t milliseconds, uint8_t *answer, size_t answer_len, uint8_t *reply,
+                   size_t reply_len);
 
 #ifdef __cplusplus
 }

@@ -203,24 +203,26 @@ fn fill_row(row: &mut Row, body: &[u8; BODY_BYTES]) {
     row[8 * ENEV..].fill(0);
 }
 
-fn reads(table: &mut [u8], set: u16, count: u16) -> u16 {
-    media_event(table, set, |row| count_in_d(row, 0, count))
+fn reads(table: &mut [u8], set: u16, count: u16, reply: &mut [u8]) -> u16 {
+    media_event(table, set, |row| count_in_d(row, 0, count), reply)
 }
 
-fn writes(table: &mut [u8], set: u16, count: u16) -> u16 {
-    media_event(table, set, |row| count_in_d(row, 1, count))
+fn writes(table: &mut [u8], set: u16, count: u16, reply: &mut [u8]) -> u16 {
+    media_event(table, set, |row| count_in_d(row, 1, count), reply)
 }
 
-fn excursion(table: &mut [u8], set: u16) -> u16 {
-    media_event(table, set, |row| {
+fn excursion(table: &mut [u8], set: u16, reply: &mut [u8]) -> u16 {
+    let rule = |row: &mut Row| {
         if get(row, WINDOW_WORD) == D {
             enter(row, N);
             note(row, EXCURSION);
         }
-    })
+    };
+    media_event(table, set, rule, reply)
 }
 
-fn tick(table: &mut [u8], milliseconds: u32) -> u16 {
+fn tick(table: &mut [u8], milliseconds: u32, _answer: &mut [u8], reply: &mut [u8]) -> u16 {
+    put_reply(reply, 0, 0);
     let all = match legal_rows(table) {
         Err(number) => return number,
         Ok(all) => all,
@@ -240,7 +242,8 @@ fn tick(table: &mut [u8], milliseconds: u32) -> u16 {
 }
 
 #[inline(always)]
-fn media_event(table: &mut [u8], set: u16, rule: impl FnOnce(&mut Row)) -> u16 {
+fn media_event(table: &mut [u8], set: u16, rule: impl FnOnce(&mut Row), reply: &mut [u8]) -> u16 {
+    put_reply(reply, 0, 0);
     match legal_rows(table) {
         Err(number) => number,
         Ok(all) => match find(all, set) {
@@ -319,12 +322,21 @@ fn command(table: &mut [u8], command: &[u8], data: &[u8], answer: &mut [u8], rep
         Ok((dword0, length)) => (status::SUCCESS, dword0, length),
         Err(number) => (number, 0, 0),
     };
+    put_reply(reply, dword0, length);
+    number
+}
+
+#[inline(always)]
+fn put_reply(reply: &mut [u8], dword0: u32, length: usize) {
     let mut bytes = [0; 16];
     bytes[0..4].copy_from_slice(&dword0.to_le_bytes());
     bytes[4..8].copy_from_slice(&(length as u32).to_le_bytes());
-    let reach = reply.len().min(bytes.len());
-    reply[..reach].copy_from_slice(&bytes[..reach]);
-    number
+    if let Some(whole) = reply.get_mut(..16) {
+        whole.copy_from_slice(&bytes);
+    } else {
+        let reach = reply.len();
+        reply.copy_from_slice(&bytes[..reach]);
+    }
 }
 
 fn carry_out(table: &mut [u8], command: &[u8], data: &[u8], answer: &mut [u8]) -> Outcome {

@@ -195,10 +195,10 @@ impl Bench {
         match self.timed {
             Timed::SetUp => all(tables, |table| (entries.set_up)(table, bodies)),
             Timed::Command { .. } => all(tables, |table| (entries.command)(table, command, data, answer, reply)),
-            Timed::Reads => all(tables, |table| (entries.reads)(table, *set, 1)),
-            Timed::Writes => all(tables, |table| (entries.writes)(table, *set, 1)),
-            Timed::Excursion => all(tables, |table| (entries.excursion)(table, *set)),
-            Timed::Tick => all(tables, |table| (entries.tick)(table, 1)),
+            Timed::Reads => all(tables, |table| (entries.reads)(table, *set, 1, reply)),
+            Timed::Writes => all(tables, |table| (entries.writes)(table, *set, 1, reply)),
+            Timed::Excursion => all(tables, |table| (entries.excursion)(table, *set, reply)),
+            Timed::Tick => all(tables, |table| (entries.tick)(table, 1, answer, reply)),
         }
     }
 }
@@ -250,11 +250,11 @@ fn prepared(bodies: &[u8], sets: u16, named: u16, state: State, others: Others) 
     for set in (1..=sets).filter(|&set| is_on(set)) {
         statuses |= set_feature(&mut table, CONFIGURATION, set);
     }
-    statuses |= (MODEL.tick)(&mut table, RECOVERY);
+    statuses |= (MODEL.tick)(&mut table, RECOVERY, &mut [], &mut []);
     for set in (1..=sets).filter(|&set| is_on(set) && enters_d(set)) {
         statuses |= set_feature(&mut table, WINDOW, set);
         if matches!(state, State::Listed) && alike(set) {
-            statuses |= (MODEL.excursion)(&mut table, set);
+            statuses |= (MODEL.excursion)(&mut table, set, &mut []);
         }
     }
     assert_eq!(statuses, status::SUCCESS, "the case cannot be prepared");

@@ -19,10 +19,18 @@ mod raw {
             reply: *mut u8,
             reply_len: usize,
         ) -> u16;
-        pub fn card_reads(table: *mut u8, table_len: usize, set: u16, count: u16) -> u16;
-        pub fn card_writes(table: *mut u8, table_len: usize, set: u16, count: u16) -> u16;
-        pub fn card_excursion(table: *mut u8, table_len: usize, set: u16) -> u16;
-        pub fn card_tick(table: *mut u8, table_len: usize, milliseconds: u32) -> u16;
+        pub fn card_reads(table: *mut u8, table_len: usize, set: u16, count: u16, reply: *mut u8, reply_len: usize) -> u16;
+        pub fn card_writes(table: *mut u8, table_len: usize, set: u16, count: u16, reply: *mut u8, reply_len: usize) -> u16;
+        pub fn card_excursion(table: *mut u8, table_len: usize, set: u16, reply: *mut u8, reply_len: usize) -> u16;
+        pub fn card_tick(
+            table: *mut u8,
+            table_len: usize,
+            milliseconds: u32,
+            answer: *mut u8,
+            answer_len: usize,
+            reply: *mut u8,
+            reply_len: usize,
+        ) -> u16;
     }
 }
 
@@ -69,18 +77,19 @@ fn command(table: &mut [u8], command: &[u8], data: &[u8], answer: &mut [u8], rep
     }
 }
 
-fn reads(table: &mut [u8], set: u16, count: u16) -> u16 {
-    unsafe { raw::card_reads(start_mut(table), table.len(), set, count) }
+fn reads(table: &mut [u8], set: u16, count: u16, reply: &mut [u8]) -> u16 {
+    unsafe { raw::card_reads(start_mut(table), table.len(), set, count, start_mut(reply), reply.len()) }
 }
 
-fn writes(table: &mut [u8], set: u16, count: u16) -> u16 {
-    unsafe { raw::card_writes(start_mut(table), table.len(), set, count) }
+fn writes(table: &mut [u8], set: u16, count: u16, reply: &mut [u8]) -> u16 {
+    unsafe { raw::card_writes(start_mut(table), table.len(), set, count, start_mut(reply), reply.len()) }
 }
 
-fn excursion(table: &mut [u8], set: u16) -> u16 {
-    unsafe { raw::card_excursion(start_mut(table), table.len(), set) }
+fn excursion(table: &mut [u8], set: u16, reply: &mut [u8]) -> u16 {
+    unsafe { raw::card_excursion(start_mut(table), table.len(), set, start_mut(reply), reply.len()) }
 }
 
-fn tick(table: &mut [u8], milliseconds: u32) -> u16 {
-    unsafe { raw::card_tick(start_mut(table), table.len(), milliseconds) }
+fn tick(table: &mut [u8], milliseconds: u32, answer: &mut [u8], reply: &mut [u8]) -> u16 {
+    let (room, said) = (answer.len(), reply.len());
+    unsafe { raw::card_tick(start_mut(table), table.len(), milliseconds, start_mut(answer), room, start_mut(reply), said) }
 }

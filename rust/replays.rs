@@ -94,10 +94,10 @@ fn with_or_without_data(random: &Random, item: Item) -> Item {
 fn apply(table: &mut [u8], item: &Item) {
     match item {
         Item::Command { command, data } => model::command(table, command, data, &mut [0; 4096], &mut []),
-        Item::Reads { set, count } => model::reads(table, *set, *count),
-        Item::Writes { set, count } => model::writes(table, *set, *count),
-        Item::Excursion { set } => model::excursion(table, *set),
-        Item::Tick { milliseconds } => model::tick(table, *milliseconds),
+        Item::Reads { set, count } => model::reads(table, *set, *count, &mut []),
+        Item::Writes { set, count } => model::writes(table, *set, *count, &mut []),
+        Item::Excursion { set } => model::excursion(table, *set, &mut []),
+        Item::Tick { milliseconds } => model::tick(table, *milliseconds, &mut [], &mut []),
     };
 }
 

@@ -61,6 +61,27 @@ static uint16_t send_command(const struct command *c)
                         sizeof reply);
 }
 
+/* Media events and ticks. They have no dword 0 and no data yet, so their replies are not looked at here; but a reply has room for
+ * all that a later version may say, and a tick has a buffer for it. */
+static uint16_t reads(uint16_t set, uint16_t count)
+{
+    uint8_t reply[CARD_REPLY_BYTES];
+    return card_reads(table, sizeof table, set, count, reply, sizeof reply);
+}
+
+static uint16_t writes(uint16_t set, uint16_t count)
+{
+    uint8_t reply[CARD_REPLY_BYTES];
+    return card_writes(table, sizeof table, set, count, reply, sizeof reply);
+}
+
+static uint16_t tick(uint32_t milliseconds)
+{
+    static uint8_t answer[CARD_ANSWER_BYTES];
+    uint8_t reply[CARD_REPLY_BYTES];
+    return card_tick(table, sizeof table, milliseconds, answer, sizeof answer, reply, sizeof reply);
+}
+
 /* Set Features 13h: the mode is switched on, with the events that the host wants to hear of and a warning threshold of reads. */
 static uint16_t enable(uint16_t set, uint16_t events, uint64_t reads_threshold)
 {
@@ -68,13 +89,13 @@ static uint16_t enable(uint16_t set, uint16_t events, uint64_t reads_threshold)
     put_number(config, 2, events);
     put_number(config + 32, 8, reads_threshold);
     return send_command(&(struct command){
-        .opcode = 0x09, .dword10 = 0x13, .dword11 = set, .dword12 = 1, .data = config, .data_len = sizeof config});
+        .opcode = CARD_SET_FEATURES, .dword10 = CARD_FEATURE_CONFIG, .dword11 = set, .dword12 = 1, .data = config, .data_len = sizeof config});
 }
 
 /* Set Features 14h, with 1 for the deterministic window */
 static uint16_t select_deterministic(uint16_t set)
 {
-    return send_command(&(struct command){.opcode = 0x09, .dword10 = 0x14, .dword11 = set, .dword12 = 1});
+    return send_command(&(struct command){.opcode = CARD_SET_FEATURES, .dword10 = CARD_FEATURE_WINDOW, .dword11 = set, .dword12 = CARD_WINDOW_D});
 }
 
 /* Get Log Page, of so many bytes from the page's start. The number of dwords less one stands in dword 10 from bit 16 on; Retain
@@ -82,14 +103,14 @@ static uint16_t select_deterministic(uint16_t set)
 static bool read_log(uint8_t page, uint16_t set, uint8_t *bytes, size_t length)
 {
     uint32_t dwords = (uint32_t)(length / 4);
-    uint16_t status = send_command(&(struct command){.opcode = 0x02,
+    uint16_t status = send_command(&(struct command){.opcode = CARD_GET_LOG_PAGE,
                                                      .dword10 = (dwords - 1) << 16 | page,
                                                      .dword11 = (uint32_t)set << 16,
                                                      .answer = bytes,
                                                      .answer_len = length});
-    if (status != CARD_OK)
+    if (CARD_IS_REFUSAL(status))
         tell("read a log page", status);
-    return status == CARD_OK;
+    return !CARD_IS_REFUSAL(status);
 }
 
 /* Pages in plain words */
@@ -106,8 +127,8 @@ static void print_events(uint16_t events)
     static const struct {
         uint16_t bit;
         const char *name;
-    } all[] = {{0x0001, "few reads left"}, {0x0002, "few writes left"}, {0x0004, "little time left"},
-               {0x4000, "window used up"}, {0x8000, "excursion"}};
+    } all[] = {{CARD_EVENT_READS, "few reads left"}, {CARD_EVENT_WRITES, "few writes left"}, {CARD_EVENT_TIME, "little time left"},
+               {CARD_EVENT_EXCEEDED, "window used up"}, {CARD_EVENT_EXCURSION, "excursion"}};
     const char *before = "";
     printf("  events: ");
     for (size_t i = 0; i < sizeof all / sizeof *all; i++)
@@ -128,7 +149,7 @@ static void print_left(const char *what, const uint8_t *page, unsigned estimate,
 static void print_set(uint16_t set)
 {
     uint8_t page[512];
-    if (!read_log(0x0A, set, page, sizeof page))
+    if (!read_log(CARD_PAGE_LATENCY, set, page, sizeof page))
         return;
     printf("set %u is %s\n", set, window(page[0]));
     print_events((uint16_t)get_number(page + 2, 2));
@@ -141,7 +162,7 @@ static void print_set(uint16_t set)
 static void print_listed(void)
 {
     uint8_t page[72];
-    if (!read_log(0x0B, 0, page, sizeof page))
+    if (!read_log(CARD_PAGE_AGGREGATE, 0, page, sizeof page))
         return;
     uint64_t count = get_number(page, 8);
     printf("sets with an event:");
@@ -169,18 +190,18 @@ static void set_up(void)
 /* A set that was just enabled has to recover before it can promise anything. */
 static void enter_window(void)
 {
-    tell("enable set 7", enable(SET_7, 0x4001, 10));
+    tell("enable set 7", enable(SET_7, CARD_EVENT_READS | CARD_EVENT_EXCEEDED, 10));
     tell("select its deterministic window", select_deterministic(SET_7));
-    tell("20 ms go by", card_tick(table, sizeof table, 20));
+    tell("20 ms go by", tick(20));
     tell("select its deterministic window", select_deterministic(SET_7));
     print_set(SET_7);
 }
 
 static void be_warned(void)
 {
-    tell("91 reads of set 7", card_reads(table, sizeof table, SET_7, 91));
-    tell("12 writes of set 7", card_writes(table, sizeof table, SET_7, 12));
-    tell("300 ms go by", card_tick(table, sizeof table, 300));
+    tell("91 reads of set 7", reads(SET_7, 91));
+    tell("12 writes of set 7", writes(SET_7, 12));
+    tell("300 ms go by", tick(300));
     print_listed();
     print_set(SET_7);
     print_listed();
@@ -188,13 +209,13 @@ static void be_warned(void)
 
 static void use_up(void)
 {
-    tell("9 reads of set 7", card_reads(table, sizeof table, SET_7, 9));
+    tell("9 reads of set 7", reads(SET_7, 9));
     print_set(SET_7);
-    tell("1 read of set 7", card_reads(table, sizeof table, SET_7, 1));
+    tell("1 read of set 7", reads(SET_7, 1));
     print_listed();
     print_set(SET_7);
     tell("select its deterministic window", select_deterministic(SET_7));
-    tell("20 ms go by", card_tick(table, sizeof table, 20));
+    tell("20 ms go by", tick(20));
     print_set(SET_7);
 }
 
@@ -202,7 +223,7 @@ static void meet_the_others(void)
 {
     print_set(SET_9);
     tell("select the deterministic window of set 9", select_deterministic(SET_9));
-    tell("1 read of set 8", card_reads(table, sizeof table, 8, 1));
+    tell("1 read of set 8", reads(8, 1));
 }
 
 int main(void)

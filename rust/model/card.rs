@@ -43,23 +43,25 @@ pub fn command(table: &mut [u8], command: &[u8], data: &[u8], answer: &mut [u8],
 }
 
 /// "A read [...] event of k (0..65,535)".
-pub fn reads(table: &mut [u8], set: u16, count: u16) -> u16 {
-    media_event(table, set, |set| set.charge(Quantity::Reads, count.into()))
+pub fn reads(table: &mut [u8], set: u16, count: u16, reply: &mut [u8]) -> u16 {
+    media_event(table, set, |set| set.charge(Quantity::Reads, count.into()), reply)
 }
 
 /// "A [...] write event of k (0..65,535)".
-pub fn writes(table: &mut [u8], set: u16, count: u16) -> u16 {
-    media_event(table, set, |set| set.charge(Quantity::Writes, count.into()))
+pub fn writes(table: &mut [u8], set: u16, count: u16, reply: &mut [u8]) -> u16 {
+    media_event(table, set, |set| set.charge(Quantity::Writes, count.into()), reply)
 }
 
 /// "An excursion counts only in D."
-pub fn excursion(table: &mut [u8], set: u16) -> u16 {
-    media_event(table, set, Set::excursion)
+pub fn excursion(table: &mut [u8], set: u16, reply: &mut [u8]) -> u16 {
+    media_event(table, set, Set::excursion, reply)
 }
 
-/// "A tick of t (0..86,400,000 ms) goes to every set." "Events: bad table 07C3h; [...] tick too long 07C5h."
-pub fn tick(table: &mut [u8], milliseconds: u32) -> u16 {
+/// "A tick of t (0..86,400,000 ms) goes to every set." "Events: bad table 07C3h; [...] tick too long 07C5h." Nothing is written to
+/// its answer buffer.
+pub fn tick(table: &mut [u8], milliseconds: u32, _answer: &mut [u8], reply: &mut [u8]) -> u16 {
     let milliseconds = u64::from(milliseconds);
+    write_reply(reply, &Answer::default());
     status_of(on_sets(table, |sets| {
         if milliseconds > DAY {
             return Err(status::LONG_TICK);
@@ -70,7 +72,8 @@ pub fn tick(table: &mut [u8], milliseconds: u32) -> u16 {
 }
 
 /// "Events: bad table 07C3h; unknown set 07C0h".
-fn media_event(table: &mut [u8], identifier: u16, rule: impl FnOnce(&mut Set)) -> u16 {
+fn media_event(table: &mut [u8], identifier: u16, rule: impl FnOnce(&mut Set), reply: &mut [u8]) -> u16 {
+    write_reply(reply, &Answer::default());
     status_of(on_sets(table, |sets| {
         let named = sets.iter_mut().find(|set| set.attributes.identifier == identifier);
         rule(named.ok_or(status::UNKNOWN_SET)?);

@@ -112,10 +112,10 @@ impl Player {
         self.reply = [0; REPLY_BYTES];
         let half = |at: usize| little_endian(&body[at..at + 2]) as u16;
         match kind {
-            READS => card::reads(&mut self.table, half(0), half(2)),
-            WRITES => card::writes(&mut self.table, half(0), half(2)),
-            EXCURSION => card::excursion(&mut self.table, half(0)),
-            TICK => card::tick(&mut self.table, little_endian(body) as u32),
+            READS => card::reads(&mut self.table, half(0), half(2), &mut []),
+            WRITES => card::writes(&mut self.table, half(0), half(2), &mut []),
+            EXCURSION => card::excursion(&mut self.table, half(0), &mut []),
+            TICK => card::tick(&mut self.table, little_endian(body) as u32, &mut [], &mut []),
             _ => {
                 let (command, data) = body.split_at(COMMAND_BYTES);
                 card::command(&mut self.table, command, data, &mut self.answer, &mut self.reply)

@@ -88,11 +88,11 @@ impl Card {
     }
 
     fn reads(&mut self, count: u16) {
-        assert_eq!(card::reads(&mut self.0, 7, count), status::SUCCESS);
+        assert_eq!(card::reads(&mut self.0, 7, count, &mut []), status::SUCCESS);
     }
 
     fn tick(&mut self, milliseconds: u32) {
-        assert_eq!(card::tick(&mut self.0, milliseconds), status::SUCCESS);
+        assert_eq!(card::tick(&mut self.0, milliseconds, &mut [], &mut []), status::SUCCESS);
     }
 
     fn set(&self) -> Set {
@@ -205,7 +205,7 @@ fn edges_8_and_9_select_d_when_time_is_spent() {
 #[test]
 fn edge_10_later_enabling_does_not_list() {
     let mut card = Card::in_d_with(0, [0; 3]);
-    assert_eq!(card::excursion(&mut card.0, 7), status::SUCCESS);
+    assert_eq!(card::excursion(&mut card.0, 7, &mut []), status::SUCCESS);
     assert_eq!((card.set().events, card.set().listed, card.set().window), (0x8000, false, Window::N));
     card.enable(0x8000, [0; 3]);
     assert_eq!((card.set().events, card.set().listed, card.listed()), (0x8000, false, 0));

@@ -105,6 +105,14 @@ impl Call {
         Call { function, regions: Regions::new(random, table, [&[], data, &[], &[]]) }
     }
 
+    /// A media event or a tick: with a reply that is sometimes too short or too long, and a tick with an answer buffer of any length.
+    pub fn item(random: &Random, function: Function, table: &[u8]) -> Call {
+        let is_tick = matches!(function, Function::Tick { .. });
+        let answer = random.bytes(if is_tick { random.place(300) } else { 0 });
+        let reply = random.bytes(if random.once_in(4) { random.place(25) } else { 16 });
+        Call { function, regions: Regions::new(random, table, [&[], &[], &answer, &reply]) }
+    }
+
     /// FID and set of a Set Features.
     pub fn set_features(&self) -> Option<(u8, u16)> {
         let command = self.whole_command()?;
@@ -186,10 +194,10 @@ impl Entries {
         match function {
             Function::SetUp => (self.set_up)(table, data),
             Function::Command => (self.command)(table, command, data, answer, reply),
-            Function::Reads { set, count } => (self.reads)(table, set, count),
-            Function::Writes { set, count } => (self.writes)(table, set, count),
-            Function::Excursion { set } => (self.excursion)(table, set),
-            Function::Tick { milliseconds } => (self.tick)(table, milliseconds),
+            Function::Reads { set, count } => (self.reads)(table, set, count, reply),
+            Function::Writes { set, count } => (self.writes)(table, set, count, reply),
+            Function::Excursion { set } => (self.excursion)(table, set, reply),
+            Function::Tick { milliseconds } => (self.tick)(table, milliseconds, answer, reply),
         }
     }
 }

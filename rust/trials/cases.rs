@@ -165,7 +165,7 @@ impl<'a> Cases<'a> {
             Function::Excursion { set },
             Function::Tick { milliseconds },
         ];
-        let mut calls: Vec<Call> = media.iter().map(|&function| Call::plain(&self.random, function, &table, &[])).collect();
+        let mut calls: Vec<Call> = media.iter().map(|&function| Call::item(&self.random, function, &table)).collect();
         let feature = [u32::from(CONFIGURATION), u32::from(set), 1, 0];
         let views = [
             (SET_FEATURES, feature),
@@ -239,7 +239,7 @@ impl<'a> Cases<'a> {
 
     fn item(&mut self, words: &[&str], expected: &str) -> Tried {
         let table = &self.table;
-        let plain = |function: Function| Call::plain(&self.random, function, table, &[]);
+        let plain = |function: Function| Call::item(&self.random, function, table);
         let short = |text: &str| number(text) as u16;
         let call = match *words {
             ["reads", set, count] => plain(Function::Reads { set: short(set), count: short(count) }),

@@ -7,10 +7,10 @@ type Command = fn(&mut [u8], &[u8], &[u8], &mut [u8], &mut [u8]) -> u16;
 pub struct Entries {
     pub set_up: fn(table: &mut [u8], bodies: &[u8]) -> u16,
     pub command: Command,
-    pub reads: fn(table: &mut [u8], set: u16, count: u16) -> u16,
-    pub writes: fn(table: &mut [u8], set: u16, count: u16) -> u16,
-    pub excursion: fn(table: &mut [u8], set: u16) -> u16,
-    pub tick: fn(table: &mut [u8], milliseconds: u32) -> u16,
+    pub reads: fn(table: &mut [u8], set: u16, count: u16, reply: &mut [u8]) -> u16,
+    pub writes: fn(table: &mut [u8], set: u16, count: u16, reply: &mut [u8]) -> u16,
+    pub excursion: fn(table: &mut [u8], set: u16, reply: &mut [u8]) -> u16,
+    pub tick: fn(table: &mut [u8], milliseconds: u32, answer: &mut [u8], reply: &mut [u8]) -> u16,
 }
 
 pub const MODEL: Entries = Entries {

@@ -126,7 +126,7 @@ pub fn telling_item(random: &Random, set: &Set) -> Item {
 
 /// The call that hands an item to a card. A command is sometimes too long or too short, and so are its data and its buffers.
 pub fn call(random: &Random, item: Item, table: &[u8]) -> Call {
-    let plain = |function: Function| Call::plain(random, function, table, &[]);
+    let plain = |function: Function| Call::item(random, function, table);
     match item {
         Item::Command { command, data } => command_call(random, command, data, table),
         Item::Reads { set, count } => plain(Function::Reads { set, count }),

@@ -124,32 +124,37 @@ static uint16_t set_up(struct card *card, int count, char **sets)
     return card_set_up(card->table, card->length, bodies, (size_t)count * CARD_BODY_BYTES);
 }
 
-/* Media events and ticks */
+/* Media events and ticks. What they say beside their status is not shown yet. */
+
+static uint8_t tick_answer[CARD_ANSWER_BYTES];
+static uint8_t event_reply[CARD_REPLY_BYTES];
 
 static uint16_t tick(struct card *card, int count, char **arguments)
 {
     (void)count;
-    return card_tick(card->table, card->length, (uint32_t)number(arguments[0], UINT32_MAX));
+    return card_tick(card->table, card->length, (uint32_t)number(arguments[0], UINT32_MAX), tick_answer,
+                     sizeof tick_answer, event_reply, sizeof event_reply);
 }
 
 static uint16_t reads(struct card *card, int count, char **arguments)
 {
     (void)count;
     return card_reads(card->table, card->length, (uint16_t)number(arguments[0], UINT16_MAX),
-                      (uint16_t)number(arguments[1], UINT16_MAX));
+                      (uint16_t)number(arguments[1], UINT16_MAX), event_reply, sizeof event_reply);
 }
 
 static uint16_t writes(struct card *card, int count, char **arguments)
 {
     (void)count;
     return card_writes(card->table, card->length, (uint16_t)number(arguments[0], UINT16_MAX),
-                       (uint16_t)number(arguments[1], UINT16_MAX));
+                       (uint16_t)number(arguments[1], UINT16_MAX), event_reply, sizeof event_reply);
 }
 
 static uint16_t excursion(struct card *card, int count, char **arguments)
 {
     (void)count;
-    return card_excursion(card->table, card->length, (uint16_t)number(arguments[0], UINT16_MAX));
+    return card_excursion(card->table, card->length, (uint16_t)number(arguments[0], UINT16_MAX), event_reply,
+                          sizeof event_reply);
 }
 
 /* Commands over the wire */
@@ -189,7 +194,7 @@ static bool serve_one(struct card *card)
 
     uint16_t status = card_command(card->table, card->length, request, CARD_COMMAND_BYTES, data, data_length, room, room_length,
                                    card_reply, sizeof card_reply);
-    if (status == CARD_OK)
+    if (!CARD_IS_REFUSAL(status))
         store(card);
     answer(status, card_reply, room);
     return true;
@@ -232,10 +237,10 @@ static int act(struct card *card, const char *name, int count, char **arguments)
     if (action->act != set_up)
         load(card);
     uint16_t status = action->act(card, count, arguments);
-    if (status == CARD_OK)
+    if (!CARD_IS_REFUSAL(status))
         store(card);
     printf("%04X\n", status);
-    return status == CARD_OK ? 0 : 1;
+    return CARD_IS_REFUSAL(status) ? 1 : 0;
 }
 
 int main(int argc, char **argv)

@@ -7,6 +7,7 @@ use card::media::ticks;
 use card::media::writes;
 use card::setting::set_up;
 use record::SetId;
+use replies::Reply;
 use streams::HEAD;
 use streams::count_in;
 use streams::give;
@@ -16,8 +17,14 @@ use streams::number;
 use streams::set_in;
 use streams::time_in;
 
-// What answers with a status alone.
-fn plain(head: &[u8; HEAD], kind: u64, table: &mut [u64], bodies: &[u8]) -> u16 {
+fn reply_of(
+    head: &[u8; HEAD],
+    kind: u64,
+    table: &mut [u64],
+    bytes: &[u8],
+    given: &[u8],
+    answer: &mut [u8],
+) -> Reply {
     let id = SetId(set_in(head));
     if kind == 3 {
         reads(table, id, count_in(head))
@@ -26,14 +33,21 @@ fn plain(head: &[u8; HEAD], kind: u64, table: &mut [u64], bodies: &[u8]) -> u16 
     } else if kind == 5 {
         excursion(table, id)
     } else if kind == 6 {
-        ticks(table, time_in(head))
+        ticks(table, time_in(head), answer)
     } else {
-        set_up(table, bodies)
+        command(table, bytes, given, answer)
     }
 }
 
-fn answer_whole(table: &mut [u64], bytes: &[u8], given: &[u8], answer: &mut [u8]) {
-    let r = command(table, bytes, given, answer);
+fn answer_whole(
+    head: &[u8; HEAD],
+    kind: u64,
+    table: &mut [u64],
+    bytes: &[u8],
+    given: &[u8],
+    answer: &mut [u8],
+) {
+    let r = reply_of(head, kind, table, bytes, given, answer);
     give_reply(r.status, r.dword, r.len);
 }
 
@@ -47,12 +61,12 @@ fn answer_part(table: &mut [u64], bytes: &[u8], given: &[u8], answer: &mut [u8])
 
 fn answer_by(head: &[u8; HEAD], table: &mut [u64], bytes: &[u8], given: &[u8], answer: &mut [u8]) {
     let kind = number(head, 0, 1);
-    if kind == 1 {
-        answer_whole(table, bytes, given, answer);
+    if kind == 7 {
+        give_reply(set_up(table, given), 0, 0);
     } else if kind == 8 {
         answer_part(table, bytes, given, answer);
     } else {
-        give_reply(plain(head, kind, table, given), 0, 0);
+        answer_whole(head, kind, table, bytes, given, answer);
     }
 }
 

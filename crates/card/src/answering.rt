@@ -126,7 +126,7 @@ pub fn command_part<'a>(
     status: &mut u16,
     dword: &mut u32,
 ) -> &'a mut [u8]
-    ensures { λ r. ⌜ Handed (now (table .entry)) (Item.command (now (bytes .entry)) (now (given .entry)) (length (now (answer .entry)))) (now (table .exit)) (now (status .exit)) (now (dword .exit)) (now r) ⌝ }
+    ensures { λ r. ⌜ Handed (now (table .entry)) (Item.command (now (bytes .entry)) (now (given .entry)) (length (now (answer .entry)))) (length (now (answer .entry))) (now (table .exit)) (now (status .exit)) (now (dword .exit)) (now r) ⌝ }
 {
     let x = command(table, bytes, given, answer);
     *status = x.status;

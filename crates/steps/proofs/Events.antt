@@ -105,5 +105,5 @@ module _ (ws : List ℕ) (t : ℕ) (before : List ℕ) (x : Reply) (e : legalTab
   tick-done h vs ev ex =
       let r = step-legal ws (tick t (length before)) e in
       carried ws (tick t (length before)) before vs x
-          (ev ∙ rw r (ap (written ws) (sym (map-same _ _ (tick-touches t (length before) (length (recordsOf ws)) h) (recordsOf ws)))))
-          (rw r (tick-answer h)) ex
+      (ev ∙ rw r (ap (written ws) (sym (map-same _ _ (tick-touches t (length before) (length (recordsOf ws)) h) (recordsOf ws)))))
+      (rw r (tick-answer h)) ex

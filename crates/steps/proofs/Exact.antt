@@ -214,7 +214,7 @@ refused-buffer ws i before r words buffer n h =
     (o .0, rw d at (h .table), o .1)
 
 pub refused-handed : RefusedHanded
-refused-handed ws i words status dword part n h =
+refused-handed ws i room words status dword part n h =
     let d = refused-words ws i n in
     (rw d at (h .status-is), rw d at (h .dword-is), rw d at (h .part-is), rw d at (h .table))
 

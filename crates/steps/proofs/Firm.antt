@@ -21,7 +21,7 @@ answered ws i before r q v w x y h k =
 
 -- commands that hand back the written part: the words, status, dword 0 and the part; not the bytes after it
 pub handed :
-    (ws : List ℕ) (i : Item) (v w : List ℕ) (s t d e : ℕ) (p q : List ℕ) → Handed ws i v s d p → Handed ws i w t e q
+    (ws : List ℕ) (i : Item) (room : ℕ) (v w : List ℕ) (s t d e : ℕ) (p q : List ℕ) → Handed ws i room v s d p → Handed ws i room w t e q
     → (v ≡ w) × (s ≡ t) × (d ≡ e) × (p ≡ q)
-handed ws i v w s t d e p q h k =
+handed ws i room v w s t d e p q h k =
     (h .table ∙ sym (k .table), h .status-is ∙ sym (k .status-is), h .dword-is ∙ sym (k .dword-is), h .part-is ∙ sym (k .part-is))

@@ -76,7 +76,8 @@ RefusedBuffer =
 -- of the call that hands back the written part: no part
 abbrev pub RefusedHanded : Type 0
 RefusedHanded =
-    (ws : List ℕ) (i : Item) (words : List ℕ) (status dword : ℕ) (part : List ℕ) → (refusalWords ws i ≡ 0 → ⊥) → Handed ws i words status dword part
+    (ws : List ℕ) (i : Item) (room : ℕ) (words : List ℕ) (status dword : ℕ) (part : List ℕ) → (refusalWords ws i ≡ 0 → ⊥)
+    → Handed ws i room words status dword part
     → (status ≡ refusalWords ws i) × (dword ≡ 0) × (part ≡ []) × (words ≡ ws)
 
 -- the same of set-up, which is no item; and what it leaves where it succeeds

@@ -1,7 +1,8 @@
 -- The step on the lent words.
 use mathlib.Core.Path.{_≡_}
 use mathlib.Core.List.{List}
-use Prim.Native.Nat.{ℕ}
+use Prim.Native.Nat.{ℕ, _≤_}
+use lib.ListN.{length}
 use Rattle.octets.specs.Choice.{if_then_else_}
 use Rattle.replies.specs.Numbers.{badTable}
 use Rattle.replies.specs.declared.Reply.{Reply}
@@ -33,8 +34,9 @@ pub record Answered (ws : List ℕ) (i : Item) (before : List ℕ) (r : Reply) (
   pub reply : Replied (stepWords ws i .answer) before r buffer
 
 -- The same where the written part is handed back: the buffer itself is lent on with it, so nothing can be said of the bytes after it.
-pub record Handed (ws : List ℕ) (i : Item) (words : List ℕ) (status dword : ℕ) (part : List ℕ) : Type 0 where
+pub record Handed (ws : List ℕ) (i : Item) (room : ℕ) (words : List ℕ) (status dword : ℕ) (part : List ℕ) : Type 0 where
   pub table : words ≡ stepWords ws i .table
   pub status-is : status ≡ stepWords ws i .answer .status
   pub dword-is : dword ≡ stepWords ws i .answer .dword
   pub part-is : part ≡ stepWords ws i .answer .bytes
+  pub within : length part ≤ room

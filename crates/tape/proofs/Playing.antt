@@ -16,8 +16,7 @@ use Rattle.replies.specs.declared.Reply.{Reply}
 use Rattle.replies.specs.Answers.{Answer, cut, Replied}
 use Rattle.commands.specs.Commands.{commandSize}
 use Rattle.steps.specs.Items.{Item, reads, writes, excursion, tick, command}
-use Rattle.steps.specs.Words.{stepWords, Stepped, Answered}
-use Rattle.steps.proofs.Plain.{Plain}
+use Rattle.steps.specs.Words.{stepWords, Answered, Handed}
 use Rattle.tape.specs.Text.{itemLine, Put}
 use Rattle.tape.specs.Tape.{bodySizes, bodySize, attributesKind, attributesSize, answerSize, mediaItem, itemBy, isItem, itemIn, Played, nextBody, nextSet, nextItem}
 use Rattle.tape.specs.declared.Next.{Next}
@@ -62,18 +61,34 @@ played ws i line₀ words line n status dword bytes t s d b p =
     let a : itemLine (record { status = status; dword = dword; bytes = bytes }) ≡ itemLine (stepWords ws i .answer) = rw (s, d, b) in
     record { table = t; text = p .bytes ∙ ap (sets line₀ 0) a; count = omega (arith, p .place, ap length a) }
 
-pub played-plain :
-    (ws : List ℕ) (i : Item) (line₀ words line : List ℕ) (n status : ℕ)
-    → Plain (stepWords ws i .answer) → Stepped ws i words status
-    → Put line₀ 0 (itemLine (record { status = status; dword = 0; bytes = [] })) line n → Played ws (some i) line₀ n words line
-played-plain ws i line₀ words line n status a s p =
-    played ws i line₀ words line n status 0 [] (s .table) (s .status) (sym (a .dword)) (sym (a .bytes)) p
+-- where no buffer was lent there is no data
+none-taken : (n : ℕ) → take {A = ℕ} n [] ≡ []
+none-taken zero = refl
+none-taken (suc n) = refl
 
-pub played-command :
+none-cut : (n : ℕ) → cut [] 0 n ≡ []
+none-cut n = none-taken (n - 0)
+
+pub played-bare :
+    (ws : List ℕ) (i : Item) (r : Reply) (line₀ words line : List ℕ) (n : ℕ)
+    → Answered ws i [] r words []
+    → Put line₀ 0 (itemLine (record { status = r .status; dword = r .dword; bytes = [] })) line n → Played ws (some i) line₀ n words line
+played-bare ws i r line₀ words line n a p =
+    let q = a .reply in
+    played ws i line₀ words line n (r .status) (r .dword) [] (a .table) (q .status) (q .dword) (sym (none-cut (r .len)) ∙ q .part) p
+
+pub played-handed :
+    (ws : List ℕ) (i : Item) (room : ℕ) (line₀ words line : List ℕ) (n status dword : ℕ) (part : List ℕ)
+    → Handed ws i room words status dword part
+    → Put line₀ 0 (itemLine (record { status = status; dword = dword; bytes = part })) line n → Played ws (some i) line₀ n words line
+played-handed ws i room line₀ words line n status dword part h p =
+    played ws i line₀ words line n status dword part (h .table) (h .status-is) (h .dword-is) (h .part-is) p
+
+pub played-answer :
     (ws : List ℕ) (i : Item) (buffer handed : List ℕ) (r : Reply) (line₀ words line : List ℕ) (n : ℕ)
     → Answered ws i buffer r words handed
     → Put line₀ 0 (itemLine (record { status = r .status; dword = r .dword; bytes = cut handed 0 (r .len) })) line n → Played ws (some i) line₀ n words line
-played-command ws i buffer handed r line₀ words line n a p =
+played-answer ws i buffer handed r line₀ words line n a p =
     let q = a .reply in
     played ws i line₀ words line n (r .status) (r .dword) (cut handed 0 (r .len)) (a .table) (q .status) (q .dword) (q .part) p
 
@@ -98,7 +113,7 @@ as-command kind body bytes given h p q = rw (lt-ltb kind 3 h, p, q)
 pub rest-all : (body : List ℕ) (n : ℕ) → take (length body - n) (drop n body) ≡ drop n body
 rest-all body n = rw (← length-drop n body) (take-length (drop n body))
 
-pub as-tick : (kind : ℕ) (body : List ℕ) (t : ℕ) → kind ≡ 6 → t ≡ numberAt body 0 4 → tick t ≡ itemBy kind body
+pub as-tick : (kind : ℕ) (body : List ℕ) (t : ℕ) → kind ≡ 6 → t ≡ numberAt body 0 4 → tick t answerSize ≡ itemBy kind body
 as-tick kind body t e p = rw (e, p)
 
 pub as-media : (kind : ℕ) (body : List ℕ) → 3 ≤ kind → (kind ≡ 6 → ⊥) → mediaItem kind (numberAt body 0 2) (numberAt body 2 2) ≡ itemBy kind body

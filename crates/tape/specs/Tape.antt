@@ -54,7 +54,7 @@ mediaItem kind set count = if eqb kind readsKind then reads set count else if eq
 abbrev pub itemBy : ℕ → List ℕ → Item
 itemBy kind body =
     if ltb kind readsKind then command (take commandSize body) (drop commandSize body) answerSize
-    else if eqb kind tickKind then tick (numberAt body 0 4)
+    else if eqb kind tickKind then tick (numberAt body 0 4) answerSize
     else mediaItem kind (numberAt body 0 2) (numberAt body 2 2)
 
 abbrev pub isItem : ℕ → List ℕ → Bool

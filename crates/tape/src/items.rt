@@ -13,7 +13,7 @@ ghost use Rattle.tape.specs.Tape.{bodySize, answerSize, mediaItem, itemB
 use crate::Next;
 use crate::lines::LINE;
 use crate::lines::item_line;
-use card::answering::command;
+use card::answering::command_part;
 use card::media::event;
 use card::media::ticks;
 use pages::bodies::BODY;
@@ -45,24 +45,27 @@ pub fn body_size(kind: u8) -> usize
 fn play_event(table: &mut [u64], line: &mut [u8; LINE], set: u16, m: Media) -> usize
     ensures { λ r. ⌜ Played (now (table .entry)) (some (itemOf set m)) (now (line .entry)) r (now (table .exit)) (now (line .exit)) ⌝ }
 {
-    let status = event(table, SetId(set), m);
-    item_line(line, status, 0, b"")
+    let r = event(table, SetId(set), m);
+    item_line(line, r.status, r.dword, b"")
 }
 
 fn play_tick(table: &mut [u64], line: &mut [u8; LINE], t: u32) -> usize
-    ensures { λ r. ⌜ Played (now (table .entry)) (some (Item.tick t)) (now (line .entry)) r (now (table .exit)) (now (line .exit)) ⌝ }
+    ensures { λ r. ⌜ Played (now (table .entry)) (some (Item.tick t answerSize)) (now (line .entry)) r (now (table .exit)) (now (line .exit)) ⌝ }
 {
-    let status = ticks(table, t);
-    item_line(line, status, 0, b"")
+    let mut answer = [0u8; ANSWER_SIZE];
+    let r = ticks(table, t, &mut answer);
+    let n = r.len;
+    item_line(line, r.status, r.dword, &answer[0..n])
 }
 
 fn play_command(table: &mut [u64], line: &mut [u8; LINE], bytes: &[u8], given: &[u8]) -> usize
     ensures { λ r. ⌜ Played (now (table .entry)) (some (Item.command (now (bytes .entry)) (now (given .entry)) answerSize)) (now (line .entry)) r (now (table .exit)) (now (line .exit)) ⌝ }
 {
     let mut answer = [0u8; ANSWER_SIZE];
-    let r = command(table, bytes, given, &mut answer);
-    let n = r.len;
-    item_line(line, r.status, r.dword, &answer[0..n])
+    let mut status = 0;
+    let mut dword = 0;
+    let part = command_part(table, bytes, given, &mut answer, &mut status, &mut dword);
+    item_line(line, status, dword, part)
 }
 
 fn play_media(table: &mut [u64], line: &mut [u8; LINE], kind: u8, body: &[u8]) -> usize

@@ -9,19 +9,22 @@ event-spec =
     (tie.spec
     (λ c κs. search needs)
     (λ c. search needs)
+    (λ c κs. search needs)
     (λ c. search needs)
+    (λ c κs. search needs)
     (λ c. search needs)
     (λ c κs. let m = c .before .before in entered _ _ _ _ (m .before .before .enter .ensures) (m .e .given .1))
     (λ c κs. search needs)
     (λ c κs. let m = c .before .before .before .before .before in entered _ _ _ _ (m .before .before .enter .ensures) (m .e .given .1))
+    (λ c κs. search needs)
     (λ c. search needs)
-    (λ c. let p = c .before .before in event-bad _ _ (p .before .before .before .args .m) _ (p .enter .ensures) (c .enum-told .given .1))
+    (λ c. let p = c .before .before .before in event-bad _ _ (p .before .before .before .args .m) _ (p .enter .ensures) _ (c .before .enum-told .given .1) (c .refuse .ensures))
     (λ c. search needs)
-    (λ c. let p = c .before .before in event-unknown _ _ (p .before .before .before .args .m) _ (p .enter .ensures) (c .enum-told2 .given .1))
+    (λ c. let p = c .before .before .before in event-unknown _ _ (p .before .before .before .args .m) _ (p .enter .ensures) _ (c .before .enum-told2 .given .1) (c .refuse2 .ensures))
     (λ c. search needs)
     (λ c.
-    let t = c .before .before in
+    let t = c .before .before .before in
     let r = t .before .before .before in
     let m = r .before .before .before in
     let p = m .before .before in
-    event-here _ _ (p .before .before .before .args .m) _ (p .enter .ensures) _ (m .e .given .1) _ _ _ (r .load .ensures) (t .before .after-event .ensures) (t .store .ensures)))
+    event-here _ _ (p .before .before .before .args .m) _ (p .enter .ensures) _ _ (m .e .given .1) _ _ _ (r .load .ensures) (t .before .after-event .ensures) (t .store .ensures) (c .done .ensures)))

@@ -11,16 +11,19 @@ ticks-spec =
     tie.close
     (tie.spec
     (λ c κs. search needs)
+    (λ c κs. search needs)
     (λ c. search needs)
-    (λ c. let t = c .before in tick-long _ _ (sym (t .before .legal .ensures) ∙ t .if1 .taken) (c .if2 .taken))
+    (λ c. let t = c .before .before in tick-long _ _ _ _ (sym (t .before .legal .ensures) ∙ t .if1 .taken) (c .before .if2 .taken) (c .refuse .ensures))
     (λ c κs. let t = c .before .before in omega (arith, legal-known _ (sym (t .before .legal .ensures) ∙ t .if1 .taken) .room))
     (λ c κs.
     let t = c .before .before .before .before in
     (c .before .count-of .ensures, legal-known _ (sym (t .before .legal .ensures) ∙ t .if1 .taken)))
+    (λ c κs. search needs)
+    (λ c κs. search needs)
     (λ c. search needs)
     (λ c.
-    let s = c .before .before .before .before .before .before in
+    let s = c .before .before .before .before .before .before .before in
     let t = s .before in
-    tick-done _ _ (sym (t .before .legal .ensures) ∙ t .if1 .taken) (s .if2 .left) _ (c .before .before .tick-all .ensures))
+    tick-done _ _ _ _ (sym (t .before .legal .ensures) ∙ t .if1 .taken) (s .if2 .left) _ (c .before .before .before .tick-all .ensures) (c .done .ensures))
     (λ c. search needs)
-    (λ c. bad _ _ (sym (c .before .legal .ensures) ∙ c .if1 .left)))
+    (λ c. bad _ _ _ _ (sym (c .before .before .legal .ensures) ∙ c .before .if1 .left) (c .refuse2 .ensures)))

@@ -1,5 +1,5 @@
 use borrow.Author.Needs.{needs}
-use Rattle.tape.proofs.Playing.{played-command}
+use Rattle.tape.proofs.Playing.{played-handed}
 use Rattle.tape.proofs.items.play_command.Statement.{statement}
 use Rattle.tape.proofs.items.play_command.Tie as tie
 
@@ -9,9 +9,6 @@ play-command-spec =
     (tie.spec
     (λ c. search needs)
     (λ c κs. search needs)
+    (λ c κs. c .before .before .before .before .command-part .ensures .within)
     (λ c. search needs)
-    (λ c. search needs)
-    (λ c. search needs)
-    (λ c κs. search needs)
-    (λ c. search needs)
-    (λ c. played-command _ _ _ _ _ _ _ _ _ (c .before .before .before .before .before .before .before .command .ensures) (c .item-line .ensures)))
+    (λ c. played-handed _ _ _ _ _ _ _ _ _ _ (c .before .before .before .before .before .before .command-part .ensures) (c .before .item-line .ensures)))

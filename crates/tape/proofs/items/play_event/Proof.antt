@@ -1,6 +1,5 @@
 use borrow.Author.Needs.{needs}
-use Rattle.steps.proofs.Plain.{plain}
-use Rattle.tape.proofs.Playing.{played-plain}
+use Rattle.tape.proofs.Playing.{played-bare}
 use Rattle.tape.proofs.items.play_event.Statement.{statement}
 use Rattle.tape.proofs.items.play_event.Tie as tie
 
@@ -12,4 +11,4 @@ play-event-spec =
     (λ c. search needs)
     (λ c κs. search needs)
     (λ c. search needs)
-    (λ c. let s = c .before .before .before .before .before .before .before .before in played-plain _ _ _ _ _ _ _ (plain _ (s .args .set) (s .args .m)) (c .before .before .before .before .before .event .ensures) (c .item-line .ensures)))
+    (λ c. played-bare _ _ _ _ _ _ _ (c .before .before .before .before .before .event .ensures) (c .item-line .ensures)))
