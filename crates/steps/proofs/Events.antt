@@ -6,7 +6,7 @@ use Prim.Native.Nat.{ℕ, _+_, _≤_, _<_}
 use native.Mathlib.Omega.{arith}
 use native.Mathlib.Nat.{zero-mul}
 use borrow.Author.Tests.{lt-ltb, le-ltb}
-use lib.ListN.{length}
+use lib.ListN.{length, length-map}
 use Rattle.record.specs.declared.Slot.{Slot}
 use Rattle.record.specs.declared.Record.{Record}
 use Rattle.record.specs.Events.{settled}
@@ -15,14 +15,15 @@ use Rattle.replies.specs.Numbers.{badTable, unknownSet, tickTooLong}
 use Rattle.table.specs.declared.Entry.{Entry}
 use Rattle.table.specs.declared.Entry.the-variants.{Bad, Unknown, Here}
 use Rattle.table.specs.Layout.{wordsOf, recordOf}
-use Rattle.table.specs.Table.{rowStart, row, idOf, put, recordsOf, legalTable, enterIn, written}
-use Rattle.table.proofs.Known.{is-bad, is-unknown, is-here}
+use Rattle.table.specs.Table.{count, rowStart, row, idOf, put, recordsOf, legalTable, enterIn, writtenRows}
+use Rattle.table.proofs.Known.{legal-known, length-records, is-bad, is-unknown, is-here}
+use Rattle.table.proofs.Written.{header-stays}
 use Rattle.steps.specs.declared.Media.{Media}
 use Rattle.steps.specs.declared.Media.the-variants.{Reads, Writes, Excursion}
 use Rattle.steps.specs.Items.{Item, tick, The}
 use Rattle.steps.specs.Meanings.{event, ticked, meaning}
 use Rattle.steps.specs.Media.{itemOf, mediaRule, tickOne}
-use Rattle.steps.specs.Card.{statusAll, statusOf, concerns, touched, effectOn, answer}
+use Rattle.steps.specs.Card.{statusAll, statusOf, concerns, touched, effectOn, after, answer}
 use Rattle.steps.specs.Words.{cardOf, Stepped}
 use Rattle.steps.proofs.Lists.{map-same}
 use Rattle.steps.proofs.Shapes.{touched-own}
@@ -86,10 +87,11 @@ module _ (ws : List ℕ) (t : ℕ) (e : legalTable ws ≡ true) where
   unfolding answer meaning
   tick-answer h = rw (tick-status t (length (recordsOf ws)) h)
 
-  pub tick-done : t ≤ dayMs → (vs : List ℕ) → vs ≡ written ws (map (tickOne t) (recordsOf ws)) → Stepped ws (tick t) vs 0
+  pub tick-done : t ≤ dayMs → (vs : List ℕ) → vs ≡ writtenRows ws (map (tickOne t) (recordsOf ws)) → Stepped ws (tick t) vs 0
   tick-done h vs ev =
       let r = step-legal ws (tick t) e in
+      let many : length (after (cardOf ws) (tick t) .sets) ≡ count ws = simp length-map (length-records ws) in
       record {
-        table = ev ∙ rw r (ap (written ws) (sym (map-same _ _ (tick-touches t (length (recordsOf ws)) h) (recordsOf ws))));
+        table = ev ∙ rw (r, header-stays ws (legal-known ws e) (after (cardOf ws) (tick t)) many) (ap (writtenRows ws) (sym (map-same _ _ (tick-touches t (length (recordsOf ws)) h) (recordsOf ws))));
         status = rw r (sym (tick-answer h));
       }
