@@ -9,7 +9,7 @@ use native.Mathlib.Numerals.{add-one}
 use borrow.Author.Tests.{eqb-true, eqb-false, ne-eqb, eq-eqb, not-false, leb-true, ltb-false}
 use lib.Dec.{eqb, leb}
 use lib.ListN.{length}
-use lib.Seq.{sets}
+use lib.Seq.{sets, length-sets}
 use Rattle.octets.specs.Choice.{if_then_else_}
 use Rattle.octets.proofs.Tests.{both}
 use Rattle.record.specs.declared.Attributes.{Attributes}
@@ -117,6 +117,9 @@ new-length bytes = as-many bytes 0 (bodies bytes)
 
 pub new-header : (bytes : List ℕ) → layoutNumber ∷ bodies bytes ∷ [] ≡ header (newCard bytes)
 new-header bytes = ap (λ (n : ℕ). layoutNumber ∷ n ∷ []) (sym (new-length bytes))
+
+pub headed-length : (bytes ws us : List ℕ) → us ≡ sets ws 0 (layoutNumber ∷ bodies bytes ∷ []) → length us ≡ length ws
+headed-length bytes ws us e = ap length e ∙ length-sets ws 0 (layoutNumber ∷ bodies bytes ∷ [])
 
 -- the header and then the rows make it
 pub headed-rows :

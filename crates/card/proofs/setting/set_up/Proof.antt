@@ -1,13 +1,9 @@
 use mathlib.Core.Path.{ap, _∙_}
-use mathlib.Core.List.{[], _∷_}
 use native.Mathlib.Omega.{arith}
 use borrow.Author.Needs.{needs}
 use lib.ListN.{length}
-use lib.Seq.{length-sets}
-use Rattle.table.specs.Card.{layoutNumber}
 use Rattle.table.proofs.Written.{length-rows-written}
-use Rattle.steps.specs.SetUp.{bodies}
-use Rattle.steps.proofs.NewSets.{well, set-up-refused, set-up-done, headed-rows}
+use Rattle.steps.proofs.NewSets.{well, set-up-refused, set-up-done, headed-length, headed-rows}
 use Rattle.card.proofs.setting.set_up.Statement.{statement}
 use Rattle.card.proofs.setting.set_up.Tie as tie
 
@@ -26,12 +22,13 @@ set-up-spec =
     let t = p .before .before .before in
     let a = t .before .before .before .before .args in
     let w = well _ _ _ (t .before .refusal .ensures) (t .if1 .taken) in
-    let l = ap length (p .copy-words .ensures) ∙ length-sets (a .table .now) 0 (layoutNumber ∷ bodies (a .bytes .now) ∷ []) in
+    let l = headed-length (a .bytes .now) (a .table .now) _ (p .copy-words .ensures) in
     (w .whole, omega (arith, w .room, l)))
     (λ c.
     let v = c .before .before in
     let p = v .before .before .before .before in
-    ap length (v .write-rows .ensures) ∙ length-rows-written _ _ ∙ ap length (p .copy-words .ensures) ∙ length-sets _ 0 _)
+    let a = p .before .before .before .before .before .before .before .args in
+    ap length (v .write-rows .ensures) ∙ length-rows-written _ _ ∙ headed-length (a .bytes .now) (a .table .now) _ (p .copy-words .ensures))
     (λ c.
     let v = c .before .before in
     let p = v .before .before .before .before in
