@@ -60,7 +60,7 @@ extern "C" {
 #define CARD_STACK_BYTES 768          /* of any other function, likewise */
 
 /* How many bytes the table of so many sets takes. Bytes after them are neither read nor written. */
-#define CARD_TABLE_BYTES(sets) (8u * (1u + 24u * (sets)))
+#define CARD_TABLE_BYTES(sets) (8u * (2u + 24u * (sets)))
 
 /*
  * Makes the table of a card with new sets: mode off, no event, nothing listed.
