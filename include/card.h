@@ -92,8 +92,9 @@ extern "C" {
 #define CARD_COMMAND_STACK_BYTES 5632 /* of card_command, with all that it calls but memcpy and memset */
 #define CARD_STACK_BYTES 768          /* of any other function, likewise */
 
-/* How many bytes the table of so many sets takes. Bytes after them are neither read nor written. */
-#define CARD_TABLE_BYTES(sets) (8u * (1u + 24u * (sets)))
+/* How many bytes the table of so many sets takes. Bytes after them are neither read nor written. A table keeps the number of its
+   layout: one that another version of the library wrote is CARD_BAD_TABLE, and set-up makes it anew. */
+#define CARD_TABLE_BYTES(sets) (8u * (2u + 24u * (sets)))
 
 /*
  * Makes the table of a card with new sets: mode off, no event, nothing listed.

@@ -4,13 +4,13 @@
 use model::commands::{
     COMMAND_BYTES, CONFIGURATION, GET_FEATURES, GET_LOG_PAGE, IDENTIFY, LIST_PAGE, SET_FEATURES, SET_LIST, SET_PAGE, WINDOW,
 };
-use model::layout::{BODY_BYTES, MAX_SETS};
+use model::layout::{BODY_BYTES, LAYOUT_NUMBER, MAX_SETS};
 use model::status;
 use trials::entries::Entries;
 
 pub const ENTRIES: Entries = Entries { set_up, command, reads, writes, excursion, tick };
 
-const HEADER_BYTES: usize = 8;
+const HEADER_BYTES: usize = 16;
 const ROW_BYTES: usize = 192;
 const CONFIGURATION_BYTES: usize = 512;
 const SET_PAGE_BYTES: usize = 512;
@@ -95,8 +95,8 @@ fn legal_rows(table: &mut [u8]) -> Result<&mut [u8], u16> {
     if table.len() < HEADER_BYTES {
         return Err(status::BAD_TABLE);
     }
-    let sets = u64_at(table, 0);
-    if sets == 0 || sets > MAX_SETS as u64 {
+    let sets = u64_at(table, 8);
+    if u64_at(table, 0) != LAYOUT_NUMBER || sets == 0 || sets > MAX_SETS as u64 {
         return Err(status::BAD_TABLE);
     }
     let rows_end = HEADER_BYTES + ROW_BYTES * sets as usize;
@@ -173,7 +173,8 @@ fn set_up(table: &mut [u8], bodies: &[u8]) -> u16 {
         None => return status::TOO_SHORT,
         Some(table) => table,
     };
-    table[..HEADER_BYTES].copy_from_slice(&(sets as u64).to_le_bytes());
+    table[..8].copy_from_slice(&LAYOUT_NUMBER.to_le_bytes());
+    table[8..HEADER_BYTES].copy_from_slice(&(sets as u64).to_le_bytes());
     for (row, body) in rows_mut(&mut table[HEADER_BYTES..]).zip(bodies.chunks_exact(BODY_BYTES)) {
         fill_row(row, body.try_into().unwrap());
     }

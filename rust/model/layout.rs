@@ -6,10 +6,19 @@ use crate::set::{Attributes, Configuration, Set, Window};
 pub const MAX_SETS: usize = 31;
 pub const WORD_BYTES: usize = 8;
 pub const ROW_WORDS: usize = field::LISTED + 1;
-pub const HEADER_BYTES: usize = WORD_BYTES;
+pub const HEADER_BYTES: usize = WORD_BYTES * (header::SETS + 1);
 pub const ROW_BYTES: usize = WORD_BYTES * ROW_WORDS;
 /// "07h set attributes in the order above, 84".
 pub const BODY_BYTES: usize = 84;
+
+/// The number of this layout: a table that has another was written by another version.
+pub const LAYOUT_NUMBER: u64 = 0x1_0001;
+
+/// The place of each word in the header.
+pub mod header {
+    pub const LAYOUT: usize = 0;
+    pub const SETS: usize = 1;
+}
 
 /// The place of each word in its row. A capacity has two, the lower first.
 pub mod field {
@@ -47,8 +56,9 @@ pub const fn table_bytes(sets: usize) -> usize {
 /// The sets of a legal table: "1 to 31 sets, identifiers strictly rising, statics in range; [...]". None where the table is not
 /// legal or its slice too short.
 pub fn read_table(table: &[u8]) -> Option<Vec<Set>> {
-    let sets = word_of(table.get(..HEADER_BYTES)?, 0);
-    if !(1..=MAX_SETS as u64).contains(&sets) {
+    let words = table.get(..HEADER_BYTES)?;
+    let sets = word_of(words, header::SETS);
+    if word_of(words, header::LAYOUT) != LAYOUT_NUMBER || !(1..=MAX_SETS as u64).contains(&sets) {
         return None;
     }
     let rows = table.get(HEADER_BYTES..table_bytes(sets as usize))?;
@@ -58,7 +68,7 @@ pub fn read_table(table: &[u8]) -> Option<Vec<Set>> {
 
 /// Writes header and rows; "words past it are neither read nor written".
 pub fn write_table(table: &mut [u8], sets: &[Set]) {
-    let words = std::iter::once(sets.len() as u64).chain(sets.iter().flat_map(row_of));
+    let words = [LAYOUT_NUMBER, sets.len() as u64].into_iter().chain(sets.iter().flat_map(row_of));
     for (place, word) in table.chunks_exact_mut(WORD_BYTES).zip(words) {
         place.copy_from_slice(&word.to_le_bytes());
     }

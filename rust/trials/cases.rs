@@ -4,7 +4,7 @@ use crate::calls::{Call, Function, Outcome, Regions, Takes};
 use crate::entries::MODEL;
 use crate::random::Random;
 use model::commands::{COMMAND_BYTES, CONFIGURATION, GET_FEATURES, GET_LOG_PAGE, IDENTIFY, LIST_PAGE, SET_FEATURES, SET_LIST};
-use model::layout::{put_word, BODY_BYTES, HEADER_BYTES, MAX_SETS, ROW_WORDS, WORD_BYTES};
+use model::layout::{header, put_word, BODY_BYTES, HEADER_BYTES, LAYOUT_NUMBER, MAX_SETS, ROW_WORDS, WORD_BYTES};
 use model::status;
 use std::collections::BTreeMap;
 
@@ -27,11 +27,11 @@ const FIELDS: [&str; ROW_WORDS] = [
     "time-maximum",
     "minimum-high",
     "minimum-low",
-    "window",
     "enev",
     "reads-threshold",
     "writes-threshold",
     "time-threshold",
+    "window",
     "reads",
     "writes",
     "time",
@@ -122,7 +122,7 @@ impl<'a> Cases<'a> {
             _ => sets.iter().map(|name| self.attributes[name]).collect(),
         };
         self.table = vec![0; WORD_BYTES * ROOM];
-        put_word(&mut self.table, 0, self.sets.len().min(MAX_SETS) as u64);
+        put_header(&mut self.table, self.sets.len().min(MAX_SETS));
         for (slot, attributes) in self.sets.iter().enumerate() {
             put_row(&mut self.table, slot, attributes);
         }
@@ -135,7 +135,8 @@ impl<'a> Cases<'a> {
 
     fn place(&self, word: &str) -> usize {
         match word.split_once('.') {
-            None if word == "sets" => 0,
+            None if word == "layout" => header::LAYOUT,
+            None if word == "sets" => header::SETS,
             None => HEADER_WORDS + self.sets.len() * ROW_WORDS,
             Some((set, field)) => {
                 let slot = self.sets.iter().position(|attributes| attributes[0] == number(set)).expect("a set of the card");
@@ -144,12 +145,13 @@ impl<'a> Cases<'a> {
         }
     }
 
-    /// The table with other words, and as much of it as `words=` lends, which comes last.
+    /// The table with other words, and as much of it as `words=` lends, which comes last, or `header=`.
     fn with(&self, words: &[&str]) -> Vec<u8> {
         let mut table = self.table.clone();
         for word in words {
             match word.split_once('=').expect("a word and its value") {
                 ("words", lent) => table.truncate(WORD_BYTES * lent_words(lent)),
+                ("header", kept) => drop(table.drain(..WORD_BYTES * (HEADER_WORDS - number(kept) as usize))),
                 (word, value) => put_word(&mut table, self.place(word), number(value)),
             }
         }
@@ -219,7 +221,7 @@ impl<'a> Cases<'a> {
         if answered == status::SUCCESS {
             let table = expected.regions.table.lend();
             let sets = length / BODY_BYTES;
-            put_word(table, 0, sets as u64);
+            put_header(table, sets);
             for (slot, attributes) in bodies[..sets].iter().enumerate() {
                 put_row(table, slot, attributes);
             }
@@ -419,6 +421,11 @@ fn numbered(attributes: Attributes, identifier: u64) -> Attributes {
 
 fn body(attributes: &Attributes) -> Vec<u8> {
     attributes.iter().zip(WIDTHS).flat_map(|(number, width)| number.to_le_bytes().into_iter().take(width)).collect()
+}
+
+fn put_header(table: &mut [u8], sets: usize) {
+    put_word(table, header::LAYOUT, LAYOUT_NUMBER);
+    put_word(table, header::SETS, sets as u64);
 }
 
 /// A new set: its attributes, and zero in every other word.

@@ -2,7 +2,7 @@
 
 use crate::random::Random;
 use model::layout::field::*;
-use model::layout::{put_word, word_of, BODY_BYTES, HEADER_BYTES, MAX_SETS, ROW_BYTES, ROW_WORDS, WORD_BYTES};
+use model::layout::{header, put_word, word_of, BODY_BYTES, HEADER_BYTES, LAYOUT_NUMBER, MAX_SETS, ROW_BYTES, ROW_WORDS, WORD_BYTES};
 
 /// The bounds of the fields, and their neighbours.
 const LIMITS: [u64; 22] = [
@@ -45,6 +45,7 @@ pub fn damage_table(random: &Random, table: &mut Vec<u8>) {
             spoil_row_word(random, table);
         }
         8 => add_row(random, table),
+        9 => spoil_layout(random, table),
         _ => spoil_row_word(random, table),
     }
 }
@@ -52,17 +53,28 @@ pub fn damage_table(random: &Random, table: &mut Vec<u8>) {
 fn spoil_header(random: &Random, table: &mut [u8]) {
     let sets = (table.len() / ROW_BYTES) as u64;
     let number = random.pick(&[sets - 1, sets + 1, random.pick(&LIMITS), sets | 1 << random.below(64), random.uneven()]);
-    put_word(table, 0, number);
+    put_word(table, header::SETS, number);
+}
+
+/// Another number of the layout; or none, as tables had it that began with the number of their sets.
+fn spoil_layout(random: &Random, table: &mut Vec<u8>) {
+    if random.once_in(4) {
+        drop(table.drain(..WORD_BYTES));
+        return;
+    }
+    let sets = word_of(table, header::SETS);
+    let near = random.pick(&[LAYOUT_NUMBER - 1, LAYOUT_NUMBER + 1, LAYOUT_NUMBER ^ 1 << random.below(64)]);
+    put_word(table, header::LAYOUT, random.pick(&[near, sets, random.pick(&LIMITS), random.uneven()]));
 }
 
 /// Adds the last row again, with a higher identifier: of 31 sets that is one too many, and else legal.
 fn add_row(random: &Random, table: &mut Vec<u8>) {
     let last = table.len() - ROW_BYTES;
-    let sets = word_of(table, 0);
+    let sets = word_of(table, header::SETS);
     let identifier = word_of(&table[last..], IDENTIFIER) + random.between(0, 2);
     table.extend_from_within(last..);
     put_word(&mut table[last + ROW_BYTES..], IDENTIFIER, identifier);
-    put_word(table, 0, sets + 1);
+    put_word(table, header::SETS, sets + 1);
 }
 
 /// The largest legal value of a word of a row, or the word that bounds it.
@@ -129,7 +141,7 @@ fn cut_words(random: &Random, table: &mut Vec<u8>) {
 
 fn cut_bytes(random: &Random, table: &mut Vec<u8>) {
     let length = match random.below(3) {
-        0 => random.place(12),
+        0 => random.place(HEADER_BYTES + 4),
         1 => table.len() - 1 - random.place(8),
         _ => random.place(table.len()),
     };
@@ -144,8 +156,9 @@ fn spoil_byte(random: &Random, table: &mut [u8]) {
 fn random_table(random: &Random) -> Vec<u8> {
     let length = random.place(700);
     let mut table = random.bytes(length);
-    if length >= WORD_BYTES && random.once_in(2) {
-        put_word(&mut table, 0, random.between(1, 3));
+    if length >= HEADER_BYTES && random.once_in(2) {
+        put_word(&mut table, header::LAYOUT, LAYOUT_NUMBER);
+        put_word(&mut table, header::SETS, random.between(1, 3));
     }
     table
 }

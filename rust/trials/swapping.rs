@@ -6,7 +6,7 @@ use crate::entries::Entries;
 use crate::random::Random;
 use crate::samples;
 use model::layout::field::{IDENTIFIER, LISTED};
-use model::layout::{put_word, read_table, word_of, HEADER_BYTES, MAX_SETS, ROW_BYTES};
+use model::layout::{header, put_word, read_table, word_of, HEADER_BYTES, MAX_SETS, ROW_BYTES};
 
 /// How many items a card lives through.
 const HISTORY: u64 = 200;
@@ -51,8 +51,8 @@ impl History<'_> {
     /// The sets start with the records that they have.
     fn new(entries: &Entries, table: Vec<u8>) -> History {
         let own_card = |row: &[u8]| {
-            let mut own = vec![0; HEADER_BYTES];
-            put_word(&mut own, 0, 1);
+            let mut own = table[..HEADER_BYTES].to_vec();
+            put_word(&mut own, header::SETS, 1);
             own.extend_from_slice(row);
             (word_of(row, IDENTIFIER) as u16, own)
         };

@@ -3,7 +3,7 @@ ghost use mathlib.Core.Path.{_≡_};
 ghost use mathlib.Core.List.{[], map};
 ghost use lib.ListN.{length};
 ghost use Rattle.rules.specs.Rules.{tick};
-ghost use Rattle.table.specs.Table.{count, Legal, recordsOf, written};
+ghost use Rattle.table.specs.Table.{count, Legal, recordsOf, writtenRows};
 ghost use Rattle.steps.specs.Items.{Item};
 ghost use Rattle.steps.specs.Media.{itemOf, tickOne};
 ghost use Rattle.steps.specs.Words.{Answered};
@@ -57,7 +57,7 @@ pub fn excursion(table: &mut [u64], id: SetId) -> Reply
 
 fn tick_all(table: &mut [u64], n: usize, t: u32)
     requires { ⌜ (n ≡ count (now table)) × Legal (now table) ⌝ }
-    ensures { λ _. ⌜ now (table .exit) ≡ written (now (table .entry)) (map (tickOne t) (recordsOf (now (table .entry)))) ⌝ }
+    ensures { λ _. ⌜ now (table .exit) ≡ writtenRows (now (table .entry)) (map (tickOne t) (recordsOf (now (table .entry)))) ⌝ }
 {
     let mut i = 0;
     while i < n {

@@ -3,7 +3,7 @@ ghost use mathlib.Core.Path.{_≡_};
 ghost use mathlib.Core.List.{map};
 ghost use Prim.Native.Nat.{_+_, _*_, _≤_};
 ghost use lib.ListN.{length};
-ghost use Rattle.table.specs.Table.{rowStart, written};
+ghost use Rattle.table.specs.Table.{rowStart, writtenRows};
 ghost use Rattle.pages.specs.Bodies.{bodySize};
 ghost use Rattle.steps.specs.SetUp.{newRecord, attributesFrom, SetUp};
 use by_value::setting::new_record;
@@ -11,11 +11,12 @@ use by_value::setting::refusal;
 use pages::bodies::BODY;
 use pages::bodies::attributes_in;
 use record::Slot;
+use table::rows::LAYOUT;
 
 // The rows of n new sets.
 fn write_rows(table: &mut [u64], bytes: &[u8], n: usize)
     requires { ⌜ (n * bodySize ≤ length (now bytes)) × (rowStart n ≤ length (now table)) ⌝ }
-    ensures { λ _. ⌜ now (table .exit) ≡ written (now (table .entry)) (map newRecord (attributesFrom (now (bytes .entry)) 0 n)) ⌝ }
+    ensures { λ _. ⌜ now (table .exit) ≡ writtenRows (now (table .entry)) (map newRecord (attributesFrom (now (bytes .entry)) 0 n)) ⌝ }
 {
     let mut at = 0;
     let mut i = 0;
@@ -34,7 +35,8 @@ pub fn set_up(table: &mut [u64], bytes: &[u8]) -> u16
     let status = refusal(bytes, table.len());
     if status == 0 {
         let n = bytes.len() / BODY;
-        table[0] = n as u64;
+        let header = [LAYOUT, n as u64];
+        octets::copy_words(table, 0, &header);
         write_rows(table, bytes, n);
     }
     status

@@ -1,27 +1,27 @@
 -- Set-up's rows, written one after another into a region.
 use mathlib.Core.Path.{_≡_, refl, sym, ap, ap₂, _∙_}
 use mathlib.Core.List.{List, [], _∷_, map}
-use Prim.Native.Nat.{ℕ, zero, suc, _+_, _*_, _-_, _/_, _≤_, _<_}
+use Prim.Native.Nat.{ℕ, _+_, _*_, _-_, _/_, _≤_, _<_}
 use native.Mathlib.Omega.{arith}
 use native.Mathlib.Nat.{sub-zero}
 use native.Mathlib.Numerals.{add-one}
-use lib.ListN.{length, set}
-use lib.Seq.{sets, length-sets}
-use Rattle.octets.specs.Octets.{bytesOf, AllBytes}
+use lib.ListN.{length}
+use Rattle.octets.specs.Octets.{AllBytes}
 use Rattle.octets.specs.Words.{wordSize, putWords}
 use Rattle.octets.proofs.Passed.{length-put-words}
 use Rattle.octets.proofs.InPlace.{put-bytes}
 use Rattle.record.specs.declared.Attributes.{Attributes}
 use Rattle.record.specs.declared.Record.{Record}
 use Rattle.table.specs.Layout.{wordsOf}
-use Rattle.table.specs.Table.{rowStart, written}
+use Rattle.table.specs.Card.{layoutNumber}
+use Rattle.table.specs.Table.{rowStart}
 use Rattle.table.proofs.Records.{length-words}
 use Rattle.pages.specs.Bodies.{bodySize, attributesIn}
-use Rattle.steps.specs.SetUp.{newRecord, attributesFrom, bodies, setUpStatus, SetUp}
-use Rattle.steps.proofs.NewSets.{bodies-none, bodies-more, well, set-up-refused, set-up-done}
+use Rattle.steps.specs.SetUp.{newRecord, attributesFrom, bodies, newSets, newCard, setUpStatus, newTable, SetUp}
+use Rattle.steps.proofs.NewSets.{bodies-none, bodies-more, well, set-up-refused, set-up-done, new-length, new-header}
 use Rattle.region.specs.Region.{tableIn, tableOut, withRecord, withRecords}
 use Rattle.region.proofs.Words.{row-out, length-in, own-region}
-use Rattle.region.proofs.Rows.{new-rows-out}
+use Rattle.region.proofs.Rows.{card-out}
 use Rattle.card_c.specs.Entries.{SetUpAtC}
 
 pub record Filling (bytes b₀ : List ℕ) (n : ℕ) (b : List ℕ) (at i : ℕ) : Type 0 where
@@ -58,10 +58,6 @@ filling-turn bytes b₀ n b at i room h u a r c ea er ec =
 pub filling-end : (bytes b₀ : List ℕ) (n : ℕ) (b : List ℕ) (at i : ℕ) → n ≤ i → Filling bytes b₀ n b at i → b ≡ withRecords b₀ 0 (map newRecord (attributesFrom bytes 0 n))
 filling-end bytes b₀ n b at i h u = ap (λ (l : List Attributes). withRecords b i (map newRecord l)) (sym (bodies-none bytes n i at h)) ∙ u .todo
 
-as-many : (bytes : List ℕ) (at n : ℕ) → length (map newRecord (attributesFrom bytes at n)) ≡ n
-as-many bytes at zero = refl
-as-many bytes at (suc n) = ap suc (as-many bytes (at + bodySize) n)
-
 module _ (bytes b : List ℕ) (s : ℕ) (each : AllBytes b) (e : s ≡ setUpStatus bytes (length b / wordSize)) where
   on-words : s ≡ setUpStatus bytes (length (tableIn b))
   on-words = e ∙ ap (setUpStatus bytes) (sym (length-in b))
@@ -72,14 +68,17 @@ module _ (bytes b : List ℕ) (s : ℕ) (each : AllBytes b) (e : s ≡ setUpStat
       record { table = sym (own-region b each) ∙ ap (tableOut b) (u .table); status = u .status }
 
   pub new-done :
-      s ≡ 0 → (c d : List ℕ) → c ≡ sets b 0 (bytesOf wordSize (bodies bytes)) → d ≡ withRecords c 0 (map newRecord (attributesFrom bytes 0 (bodies bytes)))
+      s ≡ 0 → (c d : List ℕ) → c ≡ putWords b 0 (layoutNumber ∷ bodies bytes ∷ []) → d ≡ withRecords c 0 (map newRecord (attributesFrom bytes 0 (bodies bytes)))
       → SetUpAtC bytes b d s
+  unfolding newSets
   new-done z c d ec ed =
-      let rs = map newRecord (attributesFrom bytes 0 (bodies bytes)) in
       let w = well bytes (length b / wordSize) s e z in
-      let m = as-many bytes 0 (bodies bytes) in
-      let u = set-up-done bytes (tableIn b) s on-words z (written (set (tableIn b) 0 (bodies bytes)) rs) refl in
+      let m = new-length bytes in
+      let u = set-up-done bytes (tableIn b) s on-words z (newTable bytes (tableIn b)) refl in
       record {
-        table = ed ∙ ap (λ (y : List ℕ). withRecords y 0 rs) ec ∙ new-rows-out b (bodies bytes) rs each (omega (arith, m, w .room)) ∙ ap (tableOut b) (u .table);
+        table =
+            ed ∙ ap (λ (y : List ℕ). withRecords y 0 (newSets bytes)) (ec ∙ ap (putWords b 0) (new-header bytes))
+            ∙ card-out b (newCard bytes) each (omega (arith, m, w .room))
+            ∙ ap (tableOut b) (u .table);
         status = u .status;
       }

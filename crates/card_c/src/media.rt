@@ -4,7 +4,7 @@ ghost use mathlib.Core.List.{[], map};
 ghost use lib.ListN.{length};
 ghost use Rattle.record.specs.Events.{settled};
 ghost use Rattle.rules.specs.Rules.{readEvent, writeEvent, excursionEvent, tick};
-ghost use Rattle.table.specs.Table.{count, recordsOf, Legal, written};
+ghost use Rattle.table.specs.Table.{count, recordsOf, Legal, writtenRows};
 ghost use Rattle.region.specs.Region.{tableIn, tableOut, recordAt, withRecord, LegalAt};
 ghost use Rattle.steps.specs.Items.{Item};
 ghost use Rattle.steps.specs.Media.{mediaRule, itemOf, tickOne};
@@ -109,7 +109,7 @@ pub(crate) fn event(region: &mut [u8], id: u16, m: Media) -> Reply
 
 fn tick_all(region: &mut [u8], n: usize, t: u32)
     requires { ⌜ (n ≡ count (tableIn (now region))) × Legal (tableIn (now region)) ⌝ }
-    ensures { λ _. ⌜ now (region .exit) ≡ tableOut (now (region .entry)) (written (tableIn (now (region .entry))) (map (tickOne t) (recordsOf (tableIn (now (region .entry)))))) ⌝ }
+    ensures { λ _. ⌜ now (region .exit) ≡ tableOut (now (region .entry)) (writtenRows (tableIn (now (region .entry))) (map (tickOne t) (recordsOf (tableIn (now (region .entry)))))) ⌝ }
 {
     let mut i = 0;
     while i < n {

@@ -11,9 +11,11 @@ ghost use Rattle.steps.specs.SetUp.{newRecord, attributesFrom};
 ghost use Rattle.card_c.specs.Entries.{SetUpAtC};
 use by_value::setting::new_record;
 use by_value::setting::refusal;
+use octets::words::words_out;
 use pages::bodies::BODY;
 use pages::bodies::attributes_in;
 use record::Slot;
+use table::rows::LAYOUT;
 
 // The rows of n new sets.
 fn write_rows(region: &mut [u8], bodies: &[u8], n: usize)
@@ -37,7 +39,8 @@ pub(crate) fn set_up(region: &mut [u8], bodies: &[u8]) -> u16
     let status = refusal(bodies, region.len() / 8);
     if status == 0 {
         let n = bodies.len() / BODY;
-        octets::put(region, 0, 8, n as u64);
+        let header = [LAYOUT, n as u64];
+        words_out(&header, region, 0);
         write_rows(region, bodies, n);
     }
     status

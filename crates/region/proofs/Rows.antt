@@ -4,16 +4,17 @@ use mathlib.Core.List.{List, [], _∷_, _++_, map}
 use Prim.Native.Nat.{ℕ, suc, _+_, _*_, _/_, _≤_, _<_}
 use native.Mathlib.Omega.{arith}
 use native.Mathlib.Numerals.{add-one}
-use lib.ListN.{length, set, drop, length-append, length-map}
+use lib.ListN.{length, drop, length-append, length-map}
 use lib.Seq.{sets, drop-drop}
-use Rattle.octets.specs.Octets.{bytesOf, AllBytes}
+use Rattle.octets.specs.Octets.{AllBytes}
 use Rattle.octets.specs.Words.{wordSize, putWords}
 use Rattle.octets.proofs.Runs.{sets-join}
 use Rattle.octets.proofs.Passed.{put-append, put-rest, length-put-words}
 use Rattle.octets.proofs.InPlace.{words-same, put-front, put-within, put-bytes}
 use Rattle.record.specs.declared.Record.{Record}
 use Rattle.table.specs.Layout.{rowWords, wordsOf, recordOf}
-use Rattle.table.specs.Table.{count, rowStart, row, put, recordsOf, legalRow, Legal, writtenFrom, written}
+use Rattle.table.specs.Card.{Card, header}
+use Rattle.table.specs.Table.{count, rowStart, row, put, recordsOf, legalRow, Legal, writtenFrom, writtenRows, written}
 use Rattle.table.proofs.Records as records
 use Rattle.table.proofs.Known.{slot-legal}
 use Rattle.table.proofs.Turns.{later, later-none, later-more, later-all}
@@ -52,8 +53,8 @@ written-flat ws slot (r ∷ rs) =
     ∙ ap (λ (k : ℕ). sets (put ws slot (wordsOf r)) k (flat rs)) e
     ∙ sets-join (wordsOf r) (flat rs) ws (rowStart slot)
 
-pub rows-out : (b : List ℕ) (rs : List Record) → AllBytes b → rowStart (length rs) ≤ length b / wordSize → withRecords b 0 rs ≡ tableOut b (written (tableIn b) rs)
-unfolding written
+pub rows-out : (b : List ℕ) (rs : List Record) → AllBytes b → rowStart (length rs) ≤ length b / wordSize → withRecords b 0 rs ≡ tableOut b (writtenRows (tableIn b) rs)
+unfolding writtenRows
 rows-out b rs each h =
     let n = length-flat rs in
     let e : rowStart 0 * wordSize ≡ 0 + rowStart 0 * wordSize = omega arith in
@@ -62,16 +63,17 @@ rows-out b rs each h =
     ∙ sym (put-within (flat rs) b 0 (length b / wordSize) (rowStart 0) each (omega (arith, n)) (omega arith))
     ∙ ap (tableOut b) (sym (written-flat (tableIn b) 0 rs))
 
--- the same with another number of sets in the header
-pub new-rows-out :
-    (b : List ℕ) (n : ℕ) (rs : List Record) → AllBytes b → rowStart (length rs) ≤ length b / wordSize
-    → withRecords (sets b 0 (bytesOf wordSize n)) 0 rs ≡ tableOut b (written (set (tableIn b) 0 n) rs)
-unfolding written
-new-rows-out b n rs each h =
-    let l = length-flat rs in
-    put-flat (sets b 0 (bytesOf wordSize n)) 0 rs
-    ∙ sym (put-front (n ∷ flat rs) b 0 (length b / wordSize) each (omega (arith, l)) (omega arith))
-    ∙ ap (tableOut b) (sym (written-flat (set (tableIn b) 0 n) 0 rs))
+-- the same with the header in front
+pub card-out :
+    (b : List ℕ) (c : Card) → AllBytes b → rowStart (length (c .sets)) ≤ length b / wordSize
+    → withRecords (putWords b 0 (header c)) 0 (c .sets) ≡ tableOut b (written (tableIn b) c)
+unfolding written writtenRows
+card-out b c each h =
+    let l = length-flat (c .sets) in
+    put-flat (putWords b 0 (header c)) 0 (c .sets)
+    ∙ sym (put-append (header c) (flat (c .sets)) b 0)
+    ∙ sym (put-front (header c ++ flat (c .sets)) b 0 (length b / wordSize) each (omega (arith, l)) (omega arith))
+    ∙ ap (tableOut b) (sym (sets-join (header c) (flat (c .sets)) (tableIn b) 0) ∙ sym (written-flat (sets (tableIn b) 0 (header c)) 0 (c .sets)))
 
 -- ---- a rule on every row: the rows that are still to be done are as they were
 
@@ -135,7 +137,7 @@ undone-end f b₀ n b i h u = ap (λ (rs : List Record). withRecords b i (map f 
 
 pub undone-all :
     (f : Record → Record) (b₀ : List ℕ) (n : ℕ) (b : List ℕ) (i : ℕ) → AllBytes b₀ → rowStart (length (recordsOf (tableIn b₀))) ≤ length b₀ / wordSize → n ≤ i → Undone f b₀ n b i
-    → b ≡ tableOut b₀ (written (tableIn b₀) (map f (recordsOf (tableIn b₀))))
+    → b ≡ tableOut b₀ (writtenRows (tableIn b₀) (map f (recordsOf (tableIn b₀))))
 undone-all f b₀ n b i each room h u =
     let rs = map f (recordsOf (tableIn b₀)) in
     let e : length rs ≡ length (recordsOf (tableIn b₀)) = simp length-map in

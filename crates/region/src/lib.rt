@@ -7,6 +7,7 @@ ghost use lib.ListN.{length, getD, replicate};
 ghost use lib.Seq.{sets};
 ghost use Rattle.record.specs.Legal.{maxSets};
 ghost use Rattle.octets.specs.Words.{wordSize};
+ghost use Rattle.table.specs.Card.{headerWords};
 ghost use Rattle.table.specs.Table.{count, rowStart, row, rows, sized, legalRows, legalTable, Legal, idOf, recordsOf, findIn, enterIn, listedWord};
 ghost use Rattle.region.specs.Region.{tableIn, recordAt, withRecord, LegalAt, Moved, Silent};
 use octets::words::word_at;
@@ -19,6 +20,7 @@ use record::legal::MAX_SETS;
 use table::Entry;
 use table::Found;
 use table::rows::HEADER;
+use table::rows::LAYOUT;
 use table::rows::LISTED;
 use table::rows::NOTES;
 use table::rows::ROW;
@@ -99,20 +101,21 @@ fn size_of(n: u64) -> usize
 
 // The number of sets.
 pub fn count_of(bytes: &[u8]) -> usize
-    requires { ⌜ 1 ≤ length (now bytes) / wordSize ⌝ }
+    requires { ⌜ headerWords ≤ length (now bytes) / wordSize ⌝ }
     ensures { λ r. ⌜ r ≡ count (tableIn (now (bytes .entry))) ⌝ }
 {
-    size_of(word_of(bytes, 0))
+    size_of(word_of(bytes, 1))
 }
 
 fn fits(bytes: &[u8]) -> bool
     ensures { λ r. ⌜ r ≡ sized (tableIn (now (bytes .entry))) ⌝ }
 {
     let room = bytes.len() / 8;
-    if room == 0 {
+    if room < HEADER {
         return false;
     }
-    0 < table::extent(count_of(bytes), room)
+    let known = word_of(bytes, 0) == LAYOUT;
+    known & (0 < table::extent(count_of(bytes), room))
 }
 
 fn rows_legal(bytes: &[u8], n: usize) -> bool

@@ -6,7 +6,7 @@ use Prim.Native.Nat.{ℕ, _+_, _≤_, _<_}
 use native.Mathlib.Omega.{arith}
 use native.Mathlib.Nat.{zero-mul}
 use borrow.Author.Tests.{lt-ltb, le-ltb}
-use lib.ListN.{length}
+use lib.ListN.{length, length-map}
 use Rattle.record.specs.declared.Slot.{Slot}
 use Rattle.record.specs.declared.Record.{Record}
 use Rattle.record.specs.Events.{settled}
@@ -17,14 +17,15 @@ use Rattle.replies.specs.Answers.{granted, refused, refusing}
 use Rattle.table.specs.declared.Entry.{Entry}
 use Rattle.table.specs.declared.Entry.the-variants.{Bad, Unknown, Here}
 use Rattle.table.specs.Layout.{wordsOf, recordOf}
-use Rattle.table.specs.Table.{rowStart, row, idOf, put, recordsOf, legalTable, enterIn, written}
-use Rattle.table.proofs.Known.{is-bad, is-unknown, is-here}
+use Rattle.table.specs.Table.{count, rowStart, row, idOf, put, recordsOf, legalTable, enterIn, writtenRows}
+use Rattle.table.proofs.Known.{legal-known, length-records, is-bad, is-unknown, is-here}
+use Rattle.table.proofs.Written.{header-stays}
 use Rattle.steps.specs.declared.Media.{Media}
 use Rattle.steps.specs.declared.Media.the-variants.{Reads, Writes, Excursion}
 use Rattle.steps.specs.Items.{Item, tick, The}
 use Rattle.steps.specs.Meanings.{event, ticked, meaning}
 use Rattle.steps.specs.Media.{itemOf, mediaRule, tickOne}
-use Rattle.steps.specs.Card.{refusalAll, refusalOf, concerns, touched, effectOn, answer}
+use Rattle.steps.specs.Card.{refusalAll, refusalOf, concerns, touched, effectOn, after, answer}
 use Rattle.steps.specs.Words.{cardOf, stepWords, Answered}
 use Rattle.steps.specs.Lists.{join}
 use Rattle.steps.proofs.Lists.{map-same}
@@ -101,9 +102,11 @@ module _ (ws : List ℕ) (t : ℕ) (before : List ℕ) (x : Reply) (e : legalTab
   unfolding answer meaning
   tick-answer h = rw (tick-status t (length before) (length (recordsOf ws)) h, no-data t (length before) (recordsOf ws))
 
-  pub tick-done : t ≤ dayMs → (vs : List ℕ) → vs ≡ written ws (map (tickOne t) (recordsOf ws)) → x ≡ refusing 0 → Answered ws (tick t (length before)) before x vs before
+  pub tick-done : t ≤ dayMs → (vs : List ℕ) → vs ≡ writtenRows ws (map (tickOne t) (recordsOf ws)) → x ≡ refusing 0 → Answered ws (tick t (length before)) before x vs before
   tick-done h vs ev ex =
-      let r = step-legal ws (tick t (length before)) e in
-      carried ws (tick t (length before)) before vs x
-      (ev ∙ rw r (ap (written ws) (sym (map-same _ _ (tick-touches t (length before) (length (recordsOf ws)) h) (recordsOf ws)))))
+      let i = tick t (length before) in
+      let r = step-legal ws i e in
+      let many : length (after (cardOf ws) i .sets) ≡ count ws = simp length-map (length-records ws) in
+      carried ws i before vs x
+      (ev ∙ rw (r, header-stays ws (legal-known ws e) (after (cardOf ws) i) many) (ap (writtenRows ws) (sym (map-same _ _ (tick-touches t (length before) (length (recordsOf ws)) h) (recordsOf ws)))))
       (rw r (tick-answer h)) ex

@@ -9,7 +9,7 @@ use native.Mathlib.Omega.{arith}
 use native.Mathlib.Nat.{zero-add}
 use borrow.Author.Tests.{eqb-true, eq-eqb, ne-eqb}
 use lib.Dec.{eqb}
-use lib.ListN.{length, length-map}
+use lib.ListN.{length}
 use Rattle.record.specs.declared.Record.{Record}
 use Rattle.record.specs.Events.{settled}
 use Rattle.replies.specs.Numbers.{badTable}
@@ -18,8 +18,7 @@ use Rattle.table.specs.declared.Found.{Found}
 use Rattle.table.specs.declared.Found.the-variants.{At, Nothing}
 use Rattle.table.specs.Layout.{wordsOf, recordOf}
 use Rattle.table.specs.Table.{count, rowStart, row, put, rowsFrom, recordsOf, idOf, legalTable, findFrom, findIn, written}
-use Rattle.table.proofs.Slots.{length-rows}
-use Rattle.table.proofs.Known.{legal-known, sets-known}
+use Rattle.table.proofs.Known.{legal-known, length-records, sets-known}
 use Rattle.table.proofs.Written.{written-own, written-one}
 use Rattle.steps.specs.Lists.{nth, first}
 use Rattle.steps.specs.Items.{Item, One, The}
@@ -85,10 +84,6 @@ pub record-at : (ws : List ℕ) (k : ℕ) → k < count ws → nth k (recordsOf 
 unfolding recordsOf
 record-at ws k h = nth-rows ws 0 k (count ws) h ∙ ap (λ (i : ℕ). some (recordOf (row ws i))) (zero-add k)
 
-pub length-records : (ws : List ℕ) → length (recordsOf ws) ≡ count ws
-unfolding recordsOf
-length-records ws = simp length-map (length-rows ws 0 (count ws))
-
 -- the slot that a search finds is one of the table's, and holds the set
 pub record Here (ws : List ℕ) (id k : ℕ) : Type 0 where
   pub below : k < count ws
@@ -121,7 +116,7 @@ step-bad ws i e = rw e
 
 pub step-legal :
     (ws : List ℕ) (i : Item) → legalTable ws ≡ true
-    → stepWords ws i ≡ record { table = written ws (after (cardOf ws) i .sets); answer = answer (cardOf ws) i }
+    → stepWords ws i ≡ record { table = written ws (after (cardOf ws) i); answer = answer (cardOf ws) i }
 unfolding stepWords
 step-legal ws i e = rw e
 
@@ -181,8 +176,7 @@ module _ (ws : List ℕ) (i : Item) (id : ℕ) (o : One) (m : meaning i ≡ The 
         let r = recordOf (row ws k) in
         step-legal ws i e
         ∙ rw (
-          at-slot (cardOf ws) i k r (sets-known ws l) (record-at ws k (it .below)) names-it,
-          written-one ws l k (ruled i r) (it .below),
+          written-one ws l (after (cardOf ws) i) k (ruled i r) (at-slot (cardOf ws) i k r (sets-known ws l) (record-at ws k (it .below)) names-it) (it .below),
           effect-is z,
           answer-is z,
         )

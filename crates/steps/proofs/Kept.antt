@@ -14,8 +14,8 @@ use Rattle.record.specs.Legal.{legalAttributes, legalState, legalRecord, KeepsS
 use Rattle.rules.specs.Rules as rules
 use Rattle.rules.proofs.Keeps.{keeps-record, read-event-keeps, write-event-keeps, excursion-keeps, tick-keeps, configure-keeps, selecting-keeps}
 use Rattle.table.specs.Table.{idOf, recordsOf, legalSets, legalTable}
-use Rattle.table.proofs.Known.{legal-known, sets-known}
-use Rattle.table.proofs.Written.{legal-sized, written-back, written-legal}
+use Rattle.table.proofs.Known.{legal-known, length-records, sets-known}
+use Rattle.table.proofs.Written.{Fitting, fitting, written-back, written-legal}
 use Rattle.steps.specs.Items.{Item, reads, writes, excursion, tick, command, Meaning, Nobody, Everybody, The}
 use Rattle.octets.specs.Choice.{if_then_else_}
 use Rattle.pages.specs.Features.{configIn}
@@ -29,7 +29,7 @@ use Rattle.steps.specs.Card.{refusalAt, effectBy, effectOn, concerns, to
 use Rattle.steps.specs.Words.{cardOf, stepWords}
 use Rattle.steps.proofs.Shapes.{bool-cases, touched-own, touched-not, keeps}
 use Rattle.steps.proofs.Slots.{ordered}
-use Rattle.steps.proofs.Frame.{step-legal, length-records}
+use Rattle.steps.proofs.Frame.{step-legal}
 
 -- what is to be shown of each item: its rule keeps a state legal, where it is carried out
 abbrev Sound : Meaning → Type 0
@@ -92,11 +92,11 @@ module _ (ws : List ℕ) (i : Item) (e : legalTable ws ≡ true) where
   after-legal : legalSets 0 (after (cardOf ws) i .sets) ≡ true
   after-legal = sets-kept (length (recordsOf ws)) 0 i (recordsOf ws) (sets-known ws (legal-known ws e))
 
+  fits-again : Fitting ws (after (cardOf ws) i)
+  fits-again = fitting ws (legal-known ws e) (after (cardOf ws) i) (as-many ∙ length-records ws) after-legal
+
   pub step-keeps : legalTable (stepWords ws i .table) ≡ true
-  step-keeps =
-      rw (step-legal ws i e) (written-legal ws (legal-sized ws (legal-known ws e)) (after (cardOf ws) i .sets) (as-many ∙ length-records ws) after-legal)
+  step-keeps = rw (step-legal ws i e) (written-legal ws (after (cardOf ws) i) fits-again)
 
   pub step-back : cardOf (stepWords ws i .table) ≡ step (cardOf ws) i .card
-  step-back =
-      let b = written-back ws (legal-sized ws (legal-known ws e)) (after (cardOf ws) i .sets) (as-many ∙ length-records ws) after-legal in
-      rw (step-legal ws i e, b)
+  step-back = rw (step-legal ws i e) (written-back ws (after (cardOf ws) i) fits-again)

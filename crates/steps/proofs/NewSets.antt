@@ -6,23 +6,24 @@ use Prim.Native.Nat.{ℕ, zero, suc, _+_, _-_, _*_, _≤_, _<_}
 use native.Mathlib.Omega.{arith}
 use native.Mathlib.Nat.{sub-zero}
 use native.Mathlib.Numerals.{add-one}
-use borrow.Author.Tests.{eqb-true, eqb-false, ne-eqb, eq-eqb, not-false, leb-true, ltb-false, le-leb}
+use borrow.Author.Tests.{eqb-true, eqb-false, ne-eqb, eq-eqb, not-false, leb-true, ltb-false}
 use lib.Dec.{eqb, leb}
-use lib.ListN.{length, set, length-set}
-use lib.Seq.{getD-set-same}
+use lib.ListN.{length}
+use lib.Seq.{sets, length-sets}
 use Rattle.octets.specs.Choice.{if_then_else_}
-use Rattle.octets.proofs.Tests.{both, together}
+use Rattle.octets.proofs.Tests.{both}
 use Rattle.record.specs.declared.Attributes.{Attributes}
 use Rattle.record.specs.declared.Record.{Record}
 use Rattle.record.specs.Legal.{maxSets, inRange, legalAttributes, legalRecord}
 use Rattle.replies.proofs.Rows.{passed}
 use Rattle.table.specs.Layout.{wordsOf}
-use Rattle.table.specs.Table.{count, rowStart, put, recordsOf, legalSets, sized, legalTable, writtenFrom, written}
-use Rattle.table.proofs.Written.{written-back, written-legal}
+use Rattle.table.specs.Card.{Card, layoutNumber, header}
+use Rattle.table.specs.Table.{rowStart, put, recordsOf, legalSets, legalTable, writtenFrom, writtenRows, written}
+use Rattle.table.proofs.Written.{Fitting, written-back, written-legal}
 use Rattle.pages.specs.Bodies.{bodySize, attributesIn}
 use Rattle.replies.specs.Answers.{granted, refused}
 use Rattle.steps.specs.Words.{Result}
-use Rattle.steps.specs.SetUp.{newRecord, attributesFrom, bodies, followsOf, newSets, setUpLines, setUpStatus, newTable, setUp, SetUp}
+use Rattle.steps.specs.SetUp.{newRecord, attributesFrom, bodies, followsOf, newSets, newCard, setUpLines, setUpStatus, newTable, setUp, SetUp}
 
 module _ (bytes : List ℕ) (n i at : ℕ) where
   pub bodies-none : n ≤ i → attributesFrom bytes at (n - i) ≡ []
@@ -59,8 +60,8 @@ module _ (bytes : List ℕ) (n i at before : ℕ) (goal : Bool) (inv : legalFrom
 abbrev pub rowsLeft : List ℕ → List ℕ → ℕ → ℕ → ℕ → List ℕ
 rowsLeft ws bytes n i at = writtenFrom ws i (map newRecord (attributesFrom bytes at (n - i)))
 
-pub rows-start : (ws bytes : List ℕ) (n : ℕ) → rowsLeft ws bytes n 0 0 ≡ written ws (map newRecord (attributesFrom bytes 0 n))
-unfolding written
+pub rows-start : (ws bytes : List ℕ) (n : ℕ) → rowsLeft ws bytes n 0 0 ≡ writtenRows ws (map newRecord (attributesFrom bytes 0 n))
+unfolding writtenRows
 rows-start ws bytes n = rw sub-zero
 
 pub rows-end : (ws bytes : List ℕ) (n i at : ℕ) → n ≤ i → rowsLeft ws bytes n i at ≡ ws
@@ -100,8 +101,8 @@ module _ (bytes ws : List ℕ) (s : ℕ) (e : s ≡ setUpStatus bytes (length ws
   unfolding setUp
   set-up-refused n = record { table = rw (← e, ne-eqb s 0 n); status = rw (← e, ne-eqb s 0 n) }
 
-  pub set-up-done : s ≡ 0 → (vs : List ℕ) → vs ≡ written (set ws 0 (bodies bytes)) (map newRecord (attributesFrom bytes 0 (bodies bytes))) → SetUp bytes ws vs s
-  unfolding setUp newSets
+  pub set-up-done : s ≡ 0 → (vs : List ℕ) → vs ≡ newTable bytes ws → SetUp bytes ws vs s
+  unfolding setUp
   set-up-done z vs h = record { table = rw (← e, eq-eqb s 0 z) h; status = rw (← e, eq-eqb s 0 z) z }
 
 -- ---- set-up's table is legal, and holds the new sets
@@ -114,29 +115,28 @@ pub new-length : (bytes : List ℕ) → length (newSets bytes) ≡ bodies bytes
 unfolding newSets
 new-length bytes = as-many bytes 0 (bodies bytes)
 
+pub new-header : (bytes : List ℕ) → layoutNumber ∷ bodies bytes ∷ [] ≡ header (newCard bytes)
+new-header bytes = ap (λ (n : ℕ). layoutNumber ∷ n ∷ []) (sym (new-length bytes))
+
+pub headed-length : (bytes ws us : List ℕ) → us ≡ sets ws 0 (layoutNumber ∷ bodies bytes ∷ []) → length us ≡ length ws
+headed-length bytes ws us e = ap length e ∙ length-sets ws 0 (layoutNumber ∷ bodies bytes ∷ [])
+
+-- the header and then the rows make it
+pub headed-rows :
+    (bytes ws us vs : List ℕ) → us ≡ sets ws 0 (layoutNumber ∷ bodies bytes ∷ []) → vs ≡ writtenRows us (map newRecord (attributesFrom bytes 0 (bodies bytes)))
+    → vs ≡ newTable bytes ws
+unfolding written newSets
+headed-rows bytes ws us vs eu ev = ev ∙ ap (λ (x : List ℕ). writtenRows x (newSets bytes)) (eu ∙ ap (sets ws 0) (new-header bytes))
+
 module _ (bytes ws : List ℕ) (w : Well bytes (length ws)) where
-  base : List ℕ
-  base = set ws 0 (bodies bytes)
-
-  base-count : count base ≡ bodies bytes
-  unfolding base
-  base-count = getD-set-same ws 0 (bodies bytes) 0 (omega (arith, w .room))
-
-  base-sized : sized base ≡ true
-  unfolding base
-  base-sized =
-      rw (base-count, length-set ws 0 (bodies bytes)) (together (inRange maxSets (bodies bytes)) _ (w .range) (le-leb (rowStart (bodies bytes)) (length ws) (w .room)))
-
-  new-many : length (newSets bytes) ≡ count base
-  new-many = new-length bytes ∙ sym base-count
+  new-fits : Fitting ws (newCard bytes)
+  new-fits = record { range = rw (new-length bytes) (w .range); legal = w .legal; room = rw (new-length bytes) (w .room) }
 
   pub new-legal-table : legalTable (newTable bytes ws) ≡ true
-  unfolding base
-  new-legal-table = written-legal base base-sized (newSets bytes) new-many (w .legal)
+  new-legal-table = written-legal ws (newCard bytes) new-fits
 
   pub new-table-back : recordsOf (newTable bytes ws) ≡ newSets bytes
-  unfolding base
-  new-table-back = written-back base base-sized (newSets bytes) new-many (w .legal)
+  new-table-back = ap (λ (c : Card). c .sets) (written-back ws (newCard bytes) new-fits)
 
 abbrev pub done : List ℕ → List ℕ → Result
 done bytes ws = record { table = newTable bytes ws; answer = granted 0 [] }

@@ -3,14 +3,16 @@ use mathlib.Core.Path.{_≡_, refl, sym, ap, _∙_}
 use mathlib.Core.Bool.{true}
 use mathlib.Core.List.{List, [], _∷_, _++_}
 use mathlib.Core.Logic.{_⊎_, inl, ⊎-elim}
-use Prim.Native.Nat.{ℕ, suc, _<_}
+use Prim.Native.Nat.{ℕ, suc, _+_, _≤_}
 use native.Mathlib.Omega.{arith}
 use borrow.Author.Tests.{ne-eqb}
 use lib.ListN.{length}
+use lib.Seq.{sets}
 use Rattle.octets.proofs.Runs.{sets-comm}
 use Rattle.record.specs.declared.Record.{Record}
-use Rattle.table.specs.Layout.{rowWords, wordsOf}
-use Rattle.table.specs.Table.{rowStart, put, legalTable, writtenFrom, written}
+use Rattle.table.specs.Layout.{wordsOf}
+use Rattle.table.specs.Card.{header}
+use Rattle.table.specs.Table.{rowStart, put, legalTable, writtenFrom, writtenRows, written}
 use Rattle.table.proofs.Records.{length-words}
 use Rattle.table.proofs.Known.{legal-known}
 use Rattle.table.proofs.Written.{written-own}
@@ -37,13 +39,14 @@ refused-words ws i n =
 
 -- ---- records written over others
 
-put-past :
-    (ws : List ℕ) (j k : ℕ) (a : List ℕ) (rs : List Record) → length a ≡ rowWords → j < k
-    → put (writtenFrom ws k rs) j a ≡ writtenFrom (put ws j a) k rs
-put-past ws j k a [] l h = refl
-put-past ws j k a (r ∷ rs) l h =
-    put-past (put ws k (wordsOf r)) j (suc k) a rs l (omega arith)
-    ∙ ap (λ (x : List ℕ). writtenFrom x (suc k) rs) (sets-comm a (wordsOf r) ws (rowStart k) (rowStart j) (inl (omega arith)))
+-- words stored before them
+sets-before :
+    (ws : List ℕ) (j k : ℕ) (a : List ℕ) (rs : List Record) → j + length a ≤ rowStart k
+    → sets (writtenFrom ws k rs) j a ≡ writtenFrom (sets ws j a) k rs
+sets-before ws j k a [] h = refl
+sets-before ws j k a (r ∷ rs) h =
+    sets-before (put ws k (wordsOf r)) j (suc k) a rs (omega arith)
+    ∙ ap (λ (x : List ℕ). writtenFrom x (suc k) rs) (sets-comm a (wordsOf r) ws (rowStart k) j (inl (omega arith)))
 
 written-twice :
     (ws : List ℕ) (j : ℕ) (rs ss : List Record) → length rs ≡ length ss → writtenFrom (writtenFrom ws j rs) j ss ≡ writtenFrom ws j ss
@@ -53,17 +56,22 @@ written-twice ws j (r ∷ rs) [] e = absurd (omega arith)
 written-twice ws j (r ∷ rs) (s ∷ ss) e =
     ap
     (λ (x : List ℕ). writtenFrom x (suc j) ss)
-    (put-past (put ws j (wordsOf r)) j (suc j) (wordsOf s) rs (length-words s) (omega arith)
+    (sets-before (put ws j (wordsOf r)) (rowStart j) (suc j) (wordsOf s) rs (omega (arith, length-words s))
     ∙ ap (λ (x : List ℕ). writtenFrom x (suc j) rs) (sets-over (wordsOf r) (wordsOf s) ws (rowStart j) (length-words r ∙ sym (length-words s))))
     ∙ written-twice (put ws j (wordsOf s)) (suc j) rs ss (omega arith)
 
-written-over : (ws : List ℕ) (rs ss : List Record) → length rs ≡ length ss → written (written ws rs) ss ≡ written ws ss
-unfolding written
-written-over ws rs ss e = written-twice ws 0 rs ss e
+written-over : (ws : List ℕ) (c d : Card) → length (c .sets) ≡ length (d .sets) → written (written ws c) d ≡ written ws d
+unfolding written writtenRows
+written-over ws c d e =
+    ap
+    (λ (x : List ℕ). writtenFrom x 0 (d .sets))
+    (sets-before (sets ws 0 (header c)) 0 0 (header d) (c .sets) (omega arith)
+    ∙ ap (λ (x : List ℕ). writtenFrom x 0 (c .sets)) (sets-over (header c) (header d) ws 0 refl))
+    ∙ written-twice (sets ws 0 (header d)) 0 (c .sets) (d .sets) e
 
 -- ---- many items
 
-table-words : (ws : List ℕ) (i : Item) → legalTable ws ≡ true → stepWords ws i .table ≡ written ws (after (cardOf ws) i .sets)
+table-words : (ws : List ℕ) (i : Item) → legalTable ws ≡ true → stepWords ws i .table ≡ written ws (after (cardOf ws) i)
 table-words ws i e = rw (step-legal ws i e)
 
 answer-words : (ws : List ℕ) (i : Item) → legalTable ws ≡ true → stepWords ws i .answer ≡ answer (cardOf ws) i
@@ -78,7 +86,7 @@ words-run ws (i ∷ is) e =
       card = r .card ∙ ap (λ (c : Card). run c is) (step-back ws i e);
       words =
           r .words ∙ rw (step-back ws i e, table-words ws i e)
-          (written-over ws (after (cardOf ws) i .sets) (run (after (cardOf ws) i) is .sets) (sym (length-run is (after (cardOf ws) i))));
+          (written-over ws (after (cardOf ws) i) (run (after (cardOf ws) i) is) (sym (length-run is (after (cardOf ws) i))));
     }
 
 pub words-trace : WordsTrace
@@ -103,7 +111,7 @@ words-swap ws before i j later a b e p q h =
     let ij = before ++ i ∷ j ∷ later in
     let ji = before ++ j ∷ i ∷ later in
     record {
-      same-words = words-run ws ij e .words ∙ ap (written ws) (w .same-sets) ∙ sym (words-run ws ji e .words);
+      same-words = words-run ws ij e .words ∙ ap (λ (rs : List Record). written ws (record { sets = rs })) (w .same-sets) ∙ sym (words-run ws ji e .words);
       one-way =
           words-trace ws ij e ∙ w .one-way
           ∙ cc (words-trace ws before e, answer-later ws before e i, answer-later ws before e j, trace-later ws (before ++ i ∷ j ∷ []) e later);

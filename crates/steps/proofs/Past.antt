@@ -7,22 +7,22 @@ use Prim.Native.Nat.{ℕ, _≤_}
 use native.Mathlib.Omega.{arith}
 use borrow.Author.Tests.{eqb-true, le-ltb, leb-true}
 use lib.Dec.{eqb, leb}
-use lib.ListN.{length, length-map, length-append, length-set, set}
-use lib.Seq.{set-append-left}
+use lib.ListN.{length, length-map, length-append}
 use Rattle.octets.specs.Choice.{if_then_else_}
 use Rattle.octets.proofs.Tests.{both}
 use Rattle.record.specs.Legal.{maxSets, inRange}
 use Rattle.replies.specs.Numbers.{badTable}
 use Rattle.replies.specs.Answers.{refused}
-use Rattle.table.specs.Table.{count, rowStart, recordsOf, sized, legalTable, written}
+use Rattle.table.specs.Table.{count, rowStart, sized, legalTable, written}
+use Rattle.table.proofs.Known.{length-records}
 use Rattle.table.proofs.Written.{length-written}
 use Rattle.table.proofs.Past.{written-past, records-past, legal-past}
 use Rattle.steps.specs.Items.{Card, Item}
 use Rattle.steps.specs.Card.{after, answer}
 use Rattle.steps.specs.Words.{Result, cardOf, stepWords}
-use Rattle.steps.specs.SetUp.{bodies, newSets, setUpStatus, newTable, setUp}
+use Rattle.steps.specs.SetUp.{bodies, newCard, setUpStatus, newTable, setUp}
 use Rattle.steps.proofs.Shapes.{bool-cases}
-use Rattle.steps.proofs.Frame.{step-bad, step-legal, length-records}
+use Rattle.steps.proofs.Frame.{step-bad, step-legal}
 use Rattle.steps.proofs.NewSets.{well, new-length, done, notDone}
 
 -- a result, and words past it
@@ -43,14 +43,14 @@ module _ (past ws : List ℕ) where
     same-card = rw (records-past past ws room)
 
     abbrev stepped : Card → Result
-    stepped c = record { table = written (ws ++ past) (after c i .sets); answer = answer c i }
+    stepped c = record { table = written (ws ++ past) (after c i); answer = answer c i }
 
     legal-beside : legalTable ws ≡ true → stepWords (ws ++ past) i ≡ beside (stepWords ws i) past
     legal-beside e =
         let as-many : length (after (cardOf ws) i .sets) ≡ count ws = simp length-map (length-records ws) in
         step-legal (ws ++ past) i (legal-past past ws room ∙ e)
         ∙ ap stepped same-card
-        ∙ rw (step-legal ws i e, written-past past ws (after (cardOf ws) i .sets) (rw as-many room))
+        ∙ rw (step-legal ws i e, written-past past ws (after (cardOf ws) i) (rw as-many room))
 
     pub step-past : stepWords (ws ++ past) i ≡ beside (stepWords ws i) past
     step-past =
@@ -75,10 +75,7 @@ module _ (past ws : List ℕ) where
 
     table-past : setUpStatus bytes (length ws) ≡ 0 → newTable bytes (ws ++ past) ≡ newTable bytes ws ++ past
     table-past z =
-        let w = well bytes (length ws) _ refl z in
-        let many : rowStart (length (newSets bytes)) ≤ length (set ws 0 (bodies bytes)) =
-        rw (new-length bytes, length-set ws 0 (bodies bytes)) (w .room) in
-        rw (set-append-left ws past 0 (bodies bytes) (omega (arith, w .room))) (written-past past (set ws 0 (bodies bytes)) (newSets bytes) many)
+        let w = well bytes (length ws) _ refl z in written-past past ws (newCard bytes) (rw (new-length bytes) (w .room))
 
     by-status :
         (s : ℕ) (b : Bool) → setUpStatus bytes (length ws) ≡ s → eqb s 0 ≡ b
@@ -95,7 +92,7 @@ module _ (past ws : List ℕ) where
 pub length-step : (ws : List ℕ) (i : Item) → length (stepWords ws i .table) ≡ length ws
 length-step ws i =
     ⊎-elim
-    (λ e. rw (step-legal ws i e) (length-written ws (after (cardOf ws) i .sets)))
+    (λ e. rw (step-legal ws i e) (length-written ws (after (cardOf ws) i)))
     (λ e. rw (step-bad ws i e))
     (bool-cases (legalTable ws))
 
@@ -104,5 +101,5 @@ unfolding setUp
 length-set-up bytes ws = by (eqb (setUpStatus bytes (length ws)) 0)
   where
     by : (b : Bool) → length ((if b then done bytes ws else notDone ws (setUpStatus bytes (length ws))) .table) ≡ length ws
-    by true = length-written (set ws 0 (bodies bytes)) (newSets bytes) ∙ length-set ws 0 (bodies bytes)
+    by true = length-written ws (newCard bytes)
     by false = refl

@@ -16,6 +16,7 @@ use Rattle.table.proofs.Written.{written-own}
 use Rattle.pages.specs.Identify.{identifySize, identifyFields, shown, identifyPage}
 use Rattle.pages.proofs.Numbers.{length-place}
 use Rattle.record.specs.declared.Attributes.{Attributes}
+use Rattle.record.specs.declared.Record.{Record}
 use Rattle.commands.specs.declared.Command.{Command}
 use Rattle.commands.specs.declared.Kind.{Kind}
 use Rattle.commands.specs.declared.Kind.the-variants.{SetConfig, SetWindow, GetConfig, GetWindow, ReadLatency, ReadAggregate, Identify}
@@ -51,7 +52,7 @@ module _ (ws : List ℕ) (i : Item) (k : Kind) (c : Command) (given : ℕ) (befo
       let d = step-legal ws i e in
       let a : answered s 0 bytes ≡ answer (cardOf ws) i = rw (es, eb) (sym answer-is) in
       record {
-        table = rw d (sym (ap (written ws) same-sets ∙ written-own ws (legal-known ws e)));
+        table = rw d (sym (ap (λ (rs : List Record). written ws (record { sets = rs })) same-sets ∙ written-own ws (legal-known ws e)));
         reply = rw d (subst (λ (y : Answer). Replied y before x buffer) a p);
       }
 

@@ -11,6 +11,7 @@ use Rattle.record.specs.declared.Attributes.{Attributes}
 use Rattle.record.specs.Legal.{maxSets}
 use Rattle.table.specs.Layout.{recordOf}
 use Rattle.table.specs.Table.{count, row, idOf, recordsOf, Legal, listedMarks, listedWord}
+use Rattle.table.proofs.Known.{length-records}
 use Rattle.table.proofs.Turns.{later, later-none, later-more, later-all}
 use Rattle.pages.specs.Aggregate.{listedBy, aggregatePage}
 use Rattle.pages.specs.Identify.{entrySize, firstEntry, Shows}
@@ -18,7 +19,6 @@ use Rattle.pages.proofs.Listed.{word-below, listed-marks}
 use Rattle.pages.proofs.Entries.{Showing, show-start, show-room, show-turn, show-end}
 use Rattle.steps.specs.Commanded.{listedIds}
 use Rattle.steps.specs.Views.{attributesOf, ShowsAll}
-use Rattle.steps.proofs.Frame.{length-records}
 
 -- ---- 0Bh
 

@@ -323,7 +323,7 @@ traceWords ws (i ∷ is) = stepWords ws i .answer ∷ traceWords (stepWords ws i
 pub record RanWords (ws : List ℕ) (items : List Item) : Type 0 where
   pub legal : legalTable (runWords ws items) ≡ true
   pub card : cardOf (runWords ws items) ≡ run (cardOf ws) items
-  pub words : runWords ws items ≡ written ws (run (cardOf ws) items .sets)
+  pub words : runWords ws items ≡ written ws (run (cardOf ws) items)
 
 abbrev pub WordsRun : Type 0
 WordsRun = (ws : List ℕ) (items : List Item) → legalTable ws ≡ true → RanWords ws items

@@ -6,11 +6,8 @@ use Rattle.record.specs.declared.State.{State}
 use Rattle.record.specs.declared.Record.{Record}
 use Rattle.record.specs.declared.Effect.{Effect}
 use Rattle.replies.specs.Status.{Line}
+pub use Rattle.table.specs.Card.{Card}
 use Rattle.replies.specs.Answers.{Answer}
-
--- what the card keeps
-pub record Card : Type 0 where
-  pub sets : List Record
 
 -- what may be handed in: media events; ticks, each with the length of its answer buffer; and commands, each with its data in and the
 -- length of its answer buffer ("The length of a lent buffer is part of its item.")

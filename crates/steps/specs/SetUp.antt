@@ -4,7 +4,7 @@ use mathlib.Core.Bool.{Bool, false, not, _&&_}
 use mathlib.Core.List.{List, [], _∷_, map}
 use Prim.Native.Nat.{ℕ, zero, suc, _+_, _/_, _%_}
 use lib.Dec.{ltb, eqb}
-use lib.ListN.{length, set}
+use lib.ListN.{length}
 use Rattle.octets.specs.Choice.{if_then_else_}
 use Rattle.record.specs.declared.Window.the-variants.{Off}
 use Rattle.record.specs.declared.Attributes.{Attributes}
@@ -16,6 +16,7 @@ use Rattle.record.specs.Legal.{maxSets, inRange, legalAttributes}
 use Rattle.replies.specs.Numbers.{tooShort, badSetUp}
 use Rattle.replies.specs.Status.{Line, line, firstOf}
 use Rattle.replies.specs.Answers.{granted, refused}
+use Rattle.table.specs.Card.{Card}
 use Rattle.table.specs.Table.{rowStart, legalSets, written}
 use Rattle.pages.specs.Bodies.{bodySize, attributesIn}
 use Rattle.steps.specs.Words.{Result}
@@ -60,9 +61,12 @@ setUpLines bytes words =
 unfoldable pub setUpStatus : List ℕ → ℕ → ℕ
 setUpStatus bytes words = firstOf (setUpLines bytes words)
 
--- the header with its number of sets, and the new sets in their slots; the words past them are as they were
+abbrev pub newCard : List ℕ → Card
+newCard bytes = record { sets = newSets bytes }
+
+-- the words past the new card are as they were
 abbrev pub newTable : List ℕ → List ℕ → List ℕ
-newTable bytes ws = written (set ws 0 (bodies bytes)) (newSets bytes)
+newTable bytes ws = written ws (newCard bytes)
 
 -- the words afterwards, and the answer: "Each refusal is given exactly then, .. nothing written."
 unfoldable pub setUp : List ℕ → List ℕ → Result

@@ -7,13 +7,10 @@ use Rattle.octets.specs.Choice.{if_then_else_}
 use Rattle.replies.specs.Numbers.{badTable}
 use Rattle.replies.specs.declared.Reply.{Reply}
 use Rattle.replies.specs.Answers.{Answer, refused, Replied}
-use Rattle.table.specs.Table.{recordsOf, legalTable, written}
-use Rattle.steps.specs.Items.{Card, Item}
+use Rattle.table.specs.Table.{legalTable, written}
+pub use Rattle.table.specs.Table.{cardOf}
+use Rattle.steps.specs.Items.{Item}
 use Rattle.steps.specs.Card.{step}
-
--- the card that a table holds
-abbrev pub cardOf : List ℕ → Card
-cardOf ws = record { sets = recordsOf ws }
 
 -- the words afterwards, and the answer
 pub record Result : Type 0 where
@@ -24,7 +21,7 @@ pub record Result : Type 0 where
 unfoldable pub stepWords : List ℕ → Item → Result
 stepWords ws i =
     if legalTable ws
-    then record { table = written ws (step (cardOf ws) i .card .sets); answer = step (cardOf ws) i .answer }
+    then record { table = written ws (step (cardOf ws) i .card); answer = step (cardOf ws) i .answer }
     else record { table = ws; answer = refused badTable }
 
 -- What every item promises: the words that it leaves, its reply (status, dword 0 and length of data), and every byte of the answer

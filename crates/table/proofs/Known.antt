@@ -5,9 +5,9 @@ use mathlib.Core.List.{List, [], _∷_, map}
 use Prim.Native.Nat.{ℕ, zero, suc, _≤_, _<_}
 use native.Mathlib.Omega.{arith}
 use native.Mathlib.Nat.{not-suc-le-zero, zero-add}
-use borrow.Author.Tests.{leb-true, le-leb, lt-leb, lt-ltb}
-use lib.Dec.{ltb, leb}
-use lib.ListN.{length, getD, List·getD-eq-default}
+use borrow.Author.Tests.{leb-true, eqb-true, le-leb, lt-leb, lt-ltb}
+use lib.Dec.{ltb, leb, eqb}
+use lib.ListN.{length, getD, length-map, List·getD-eq-default}
 use Rattle.octets.proofs.Tests.{both}
 use Rattle.record.specs.declared.Record.{Record}
 use Rattle.record.specs.Legal.{inRange, legalRecord}
@@ -18,20 +18,23 @@ use Rattle.table.specs.declared.Found.the-variants.{At, Nothing}
 use Rattle.table.specs.declared.Entry.the-variants.{Bad, Unknown, Here}
 use Rattle.table.specs.Layout.{wordsOf, recordOf}
 use Rattle.record.specs.Legal.{maxSets}
-use Rattle.table.specs.Table.{count, rowStart, row, rows, recordsOf, idOf, legalRow, legalAfter, legalRows, legalSets, roomFor, sized, extentOf, legalTable, Legal, findIn, entryOf, enterIn}
+use Rattle.table.specs.Card.{layoutNumber, headerWords}
+use Rattle.table.specs.Table.{layout, count, rowStart, row, rows, recordsOf, idOf, legalRow, legalAfter, legalRows, legalSets, roomFor, sized, extentOf, legalTable, Legal, findIn, entryOf, enterIn}
 use Rattle.table.proofs.Records.{Row, row-of, words-legal, record-back}
 use Rattle.table.proofs.Slots.{rows-at, length-rows}
 
 pub record Sized (ws : List ℕ) : Type 0 where
+  pub known : layout ws ≡ layoutNumber
   pub some : 1 ≤ count ws
   pub few : count ws ≤ maxSets
   pub room : rowStart (count ws) ≤ length ws
 
 pub sized-known : (ws : List ℕ) → sized ws ≡ true → Sized ws
 sized-known ws h =
-    let p = both (inRange maxSets (count ws)) _ h in
+    let l = both (eqb (layout ws) layoutNumber) _ h in
+    let p = both (inRange maxSets (count ws)) _ (l .1) in
     let q = both (leb 1 (count ws)) _ (p .0) in
-    record { some = leb-true _ _ (q .0); few = leb-true _ _ (q .1); room = leb-true _ _ (p .1) }
+    record { known = eqb-true _ _ (l .0); some = leb-true _ _ (q .0); few = leb-true _ _ (q .1); room = leb-true _ _ (p .1) }
 
 -- how the code finds it out
 pub room-many : (n room : ℕ) → maxSets < n → roomFor n room ≡ false
@@ -47,14 +50,14 @@ some-extent n room = by (roomFor n room)
     by true = lt-ltb 0 (rowStart n) (omega arith)
     by false = refl
 
-pub sized-empty : (ws : List ℕ) → length ws ≡ 0 → sized ws ≡ false
-sized-empty ws h = let l : length ws ≤ 0 = omega arith in let e : count ws ≡ 0 = simp List·getD-eq-default in rw e
+pub sized-short : (ws : List ℕ) → length ws < headerWords → sized ws ≡ false
+sized-short ws h = let l : length ws ≤ 1 = omega arith in let e : count ws ≡ 0 = simp List·getD-eq-default in rw (e, and-false)
 
 pub legal-known : (ws : List ℕ) → legalTable ws ≡ true → Legal ws
 unfolding legalTable
 legal-known ws h =
     let s = sized-known ws (both (sized ws) _ h .0) in
-    record { some = s .some; few = s .few; room = s .room; legal = h }
+    record { known = s .known; some = s .some; few = s .few; room = s .room; legal = h }
 
 pub rows-known : (ws : List ℕ) → Legal ws → legalRows 0 (rows ws) ≡ true
 unfolding legalTable
@@ -73,6 +76,11 @@ slot-legal ws l k h =
 
 pub slot-known : (ws : List ℕ) → Legal ws → (k : ℕ) → k < count ws → Row (row ws k)
 slot-known ws l k h = row-of (row ws k) (slot-legal ws l k h)
+
+-- there are as many records as the header says
+pub length-records : (ws : List ℕ) → length (recordsOf ws) ≡ count ws
+unfolding recordsOf
+length-records ws = simp length-map (length-rows ws 0 (count ws))
 
 -- ---- legality of rows is that of their records
 

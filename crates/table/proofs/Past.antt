@@ -8,11 +8,13 @@ use native.Mathlib.Nat.{zero-add}
 use borrow.Author.Tests.{le-leb}
 use lib.Dec.{leb}
 use lib.ListN.{length, length-append, List·getD-append}
+use lib.Seq.{sets, length-sets}
 use Rattle.octets.proofs.Runs.{sets-append, part-append}
 use Rattle.record.specs.declared.Record.{Record}
 use Rattle.record.specs.Legal.{maxSets, inRange}
 use Rattle.table.specs.Layout.{rowWords, wordsOf, recordOf}
-use Rattle.table.specs.Table.{count, rowStart, row, put, rowsFrom, rows, recordsOf, sized, legalRows, legalTable, writtenFrom, written}
+use Rattle.table.specs.Card.{Card, header}
+use Rattle.table.specs.Table.{layout, count, rowStart, row, put, rowsFrom, rows, recordsOf, sized, legalRows, legalTable, writtenFrom, writtenRows, written}
 use Rattle.table.proofs.Records.{length-words}
 use Rattle.table.proofs.Slots.{length-put}
 
@@ -29,14 +31,19 @@ module _ (past : List ℕ) where
       ap (λ (x : List ℕ). writtenFrom x (suc i) rs) (sets-append (wordsOf r) ws past (rowStart i) (omega (arith, w)))
       ∙ from-past (put ws i (wordsOf r)) (suc i) rs (omega (arith, length-put ws i (wordsOf r) w))
 
-  pub written-past : (ws : List ℕ) (rs : List Record) → rowStart (length rs) ≤ length ws → written (ws ++ past) rs ≡ written ws rs ++ past
-  unfolding written
-  written-past ws rs h = from-past ws 0 rs (rw (zero-add (length rs)) h)
+  pub written-past : (ws : List ℕ) (c : Card) → rowStart (length (c .sets)) ≤ length ws → written (ws ++ past) c ≡ written ws c ++ past
+  unfolding written writtenRows
+  written-past ws c h =
+      ap (λ (x : List ℕ). writtenFrom x 0 (c .sets)) (sets-append (header c) ws past 0 (omega arith))
+      ∙ from-past (sets ws 0 (header c)) 0 (c .sets) (omega (arith, length-sets ws 0 (header c)))
 
   -- where the words have room for as many sets as their header says
   module _ (ws : List ℕ) (room : rowStart (count ws) ≤ length ws) where
     pub count-past : count (ws ++ past) ≡ count ws
-    count-past = List·getD-append ws past 0 0 (omega arith)
+    count-past = List·getD-append ws past 0 1 (omega arith)
+
+    layout-past : layout (ws ++ past) ≡ layout ws
+    layout-past = List·getD-append ws past 0 0 (omega arith)
 
     all-past : rows (ws ++ past) ≡ rows ws
     all-past = ap (rowsFrom (ws ++ past) 0) count-past ∙ rows-past ws 0 (count ws) (rw (zero-add (count ws)) room)
@@ -48,7 +55,7 @@ module _ (past : List ℕ) where
     sized-past : sized (ws ++ past) ≡ sized ws
     sized-past =
         let more : rowStart (count ws) ≤ length (ws ++ past) = omega (arith, length-append ws past) in
-        rw (count-past, le-leb (rowStart (count ws)) (length ws) room, le-leb (rowStart (count ws)) (length (ws ++ past)) more)
+        rw (layout-past, count-past, le-leb (rowStart (count ws)) (length ws) room, le-leb (rowStart (count ws)) (length (ws ++ past)) more)
 
     pub legal-past : legalTable (ws ++ past) ≡ legalTable ws
     unfolding legalTable

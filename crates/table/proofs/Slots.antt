@@ -10,7 +10,8 @@ use lib.ListN.{length, getD, drop, length-take, length-drop}
 use lib.Seq.{length-sets}
 use Rattle.octets.proofs.Runs.{getD-sets, drop-sets, part-same, part-other, sets-self}
 use Rattle.table.specs.Layout.{rowWords}
-use Rattle.table.specs.Table.{count, rowStart, row, put, rowsFrom}
+use Rattle.table.specs.Card.{headerWords}
+use Rattle.table.specs.Table.{rowStart, row, put, rowsFrom}
 
 lt-or-gt : (i j : ℕ) → (i ≡ j → ⊥) → (i < j) ⊎ (j < i)
 lt-or-gt zero zero n = absurd (n refl)
@@ -29,8 +30,8 @@ module _ (ws : List ℕ) (i : ℕ) (a : List ℕ) (long : length a ≡ rowWords)
   pub length-put : length (put ws i a) ≡ length ws
   length-put = length-sets ws (rowStart i) a
 
-  pub count-put : count (put ws i a) ≡ count ws
-  count-put = getD-sets a ws (rowStart i) 0 (inl (omega arith))
+  pub header-put : (j : ℕ) → j < headerWords → getD (put ws i a) j 0 ≡ getD ws j 0
+  header-put j h = getD-sets a ws (rowStart i) j (inl (omega arith))
 
   pub rest-put : (n : ℕ) → i < n → drop (rowStart n) (put ws i a) ≡ drop (rowStart n) ws
   rest-put n h = drop-sets a ws (rowStart i) (rowStart n) (omega arith)

@@ -6,16 +6,20 @@ use Prim.Native.Nat.{ℕ, zero, suc, _+_, _-_, _≤_, _<_}
 use native.Mathlib.Omega.{arith}
 use native.Mathlib.Nat.{zero-add, add-zero}
 use native.Mathlib.Numerals.{add-one}
-use lib.Dec.{ltb}
-use lib.ListN.{length, set, drop}
+use borrow.Author.Tests.{le-leb}
+use lib.Dec.{ltb, leb}
+use lib.ListN.{length, set, getD, drop, length-set}
+use lib.Seq.{sets, length-sets, set-getD, getD-set-same, getD-set-other}
 use Rattle.octets.proofs.Tests.{both, together}
+use Rattle.octets.proofs.Runs.{drop-sets}
 use Rattle.record.specs.declared.Record.{Record}
-use Rattle.record.specs.Legal.{legalRecord}
+use Rattle.record.specs.Legal.{maxSets, inRange, legalRecord}
 use Rattle.table.specs.Layout.{wordsOf, recordOf}
-use Rattle.table.specs.Table.{count, rowStart, row, put, rowsFrom, rows, recordsOf, idOf, legalSets, sized, legalTable, Legal, writtenFrom, written}
+use Rattle.table.specs.Card.{Card, layoutNumber, headerWords, header}
+use Rattle.table.specs.Table.{layout, count, rowStart, row, put, rowsFrom, rows, recordsOf, cardOf, idOf, legalSets, sized, legalTable, Legal, writtenFrom, writtenRows, written}
 use Rattle.table.proofs.Records.{Row, length-words, record-back}
-use Rattle.table.proofs.Slots.{put-self, length-put, count-put, rest-put, row-same, row-other, rows-other}
-use Rattle.table.proofs.Known.{slot-known, rows-of-sets, sized-known}
+use Rattle.table.proofs.Slots.{put-self, length-put, header-put, rest-put, row-same, row-other, rows-other}
+use Rattle.table.proofs.Known.{slot-known, length-records, rows-of-sets}
 use Rattle.table.proofs.Turns.{later, later-none, later-more, later-all}
 
 -- ---- records written where they came from, and one of them changed
@@ -51,16 +55,26 @@ one-written ws j (suc k) (suc m) r l h o =
 own-all : (ws : List ℕ) → Legal ws → Own ws 0 (count ws)
 own-all ws l i p q = slot-known ws l i (omega arith)
 
--- a legal table's own records, written back, change nothing
-pub written-own : (ws : List ℕ) → Legal ws → written ws (recordsOf ws) ≡ ws
-unfolding written recordsOf
-written-own ws l = own-written ws 0 (count ws) (rw (zero-add (count ws)) (l .room)) (own-all ws l)
+-- a card with as many sets leaves the header of a legal table as it is
+pub header-stays : (ws : List ℕ) → Legal ws → (c : Card) → length (c .sets) ≡ count ws → written ws c ≡ writtenRows ws (c .sets)
+unfolding written
+header-stays ws l c e =
+    ap (λ (v : List ℕ). writtenRows v (c .sets))
+    (ap₂ (λ (a b : ℕ). set (set ws 0 a) 1 b) (sym (l .known)) e ∙ ap (λ (v : List ℕ). set v 1 (count ws)) (set-getD ws 0 0) ∙ set-getD ws 1 0)
 
--- with one of them changed, they are the table with that slot put
-pub written-one : (ws : List ℕ) → Legal ws → (k : ℕ) (r : Record) → k < count ws → written ws (set (recordsOf ws) k r) ≡ put ws k (wordsOf r)
-unfolding written recordsOf
-written-one ws l k r h =
-    one-written ws 0 k (count ws) r h (rw (zero-add (count ws)) (l .room)) (own-all ws l) ∙ ap (λ (i : ℕ). put ws i (wordsOf r)) (zero-add k)
+-- a legal table's own card, written back, changes nothing
+pub written-own : (ws : List ℕ) → Legal ws → written ws (cardOf ws) ≡ ws
+unfolding writtenRows recordsOf
+written-own ws l = header-stays ws l (cardOf ws) (length-records ws) ∙ own-written ws 0 (count ws) (rw (zero-add (count ws)) (l .room)) (own-all ws l)
+
+-- with one of its sets changed, it is the table with that slot put
+pub written-one : (ws : List ℕ) → Legal ws → (c : Card) (k : ℕ) (r : Record) → c .sets ≡ set (recordsOf ws) k r → k < count ws → written ws c ≡ put ws k (wordsOf r)
+unfolding writtenRows recordsOf
+written-one ws l c k r e h =
+    header-stays ws l c (ap length e ∙ length-set (recordsOf ws) k r ∙ length-records ws)
+    ∙ ap (writtenRows ws) e
+    ∙ one-written ws 0 k (count ws) r h (rw (zero-add (count ws)) (l .room)) (own-all ws l)
+    ∙ ap (λ (i : ℕ). put ws i (wordsOf r)) (zero-add k)
 
 -- ---- a rule on every set: a turn of the loop
 
@@ -68,8 +82,8 @@ written-one ws l k r h =
 abbrev pub leftToDo : (Record → Record) → List ℕ → ℕ → ℕ → List ℕ
 leftToDo f ws n i = writtenFrom ws i (map f (later ws n i))
 
-pub all-start : (f : Record → Record) (ws : List ℕ) (n : ℕ) → n ≡ count ws → leftToDo f ws n 0 ≡ written ws (map f (recordsOf ws))
-unfolding written
+pub all-start : (f : Record → Record) (ws : List ℕ) (n : ℕ) → n ≡ count ws → leftToDo f ws n 0 ≡ writtenRows ws (map f (recordsOf ws))
+unfolding writtenRows
 all-start f ws n e = ap (λ (rs : List Record). writtenFrom ws 0 (map f rs)) (later-all ws n e)
 
 pub all-end : (f : Record → Record) (ws : List ℕ) (n i : ℕ) → n ≤ i → leftToDo f ws n i ≡ ws
@@ -92,13 +106,17 @@ from-length : (ws : List ℕ) (j : ℕ) (rs : List Record) → length (writtenFr
 from-length ws j [] = refl
 from-length ws j (r ∷ rs) = from-length (put ws j (wordsOf r)) (suc j) rs ∙ length-put ws j (wordsOf r) (length-words r)
 
-pub length-written : (ws : List ℕ) (rs : List Record) → length (written ws rs) ≡ length ws
-unfolding written
-length-written ws rs = from-length ws 0 rs
+pub length-rows-written : (ws : List ℕ) (rs : List Record) → length (writtenRows ws rs) ≡ length ws
+unfolding writtenRows
+length-rows-written ws rs = from-length ws 0 rs
 
-from-count : (ws : List ℕ) (j : ℕ) (rs : List Record) → count (writtenFrom ws j rs) ≡ count ws
-from-count ws j [] = refl
-from-count ws j (r ∷ rs) = from-count (put ws j (wordsOf r)) (suc j) rs ∙ count-put ws j (wordsOf r) (length-words r)
+pub length-written : (ws : List ℕ) (c : Card) → length (written ws c) ≡ length ws
+unfolding written
+length-written ws c = length-rows-written (sets ws 0 (header c)) (c .sets) ∙ length-sets ws 0 (header c)
+
+from-header : (ws : List ℕ) (j : ℕ) (rs : List Record) (k : ℕ) → k < headerWords → getD (writtenFrom ws j rs) k 0 ≡ getD ws k 0
+from-header ws j [] k h = refl
+from-header ws j (r ∷ rs) k h = from-header (put ws j (wordsOf r)) (suc j) rs k h ∙ header-put ws j (wordsOf r) (length-words r) k h
 
 from-rest : (ws : List ℕ) (j n : ℕ) (rs : List Record) → j + length rs ≤ n → drop (rowStart n) (writtenFrom ws j rs) ≡ drop (rowStart n) ws
 from-rest ws j n [] h = refl
@@ -125,25 +143,62 @@ records-back p (r ∷ rs) h =
     let q = both (legalRecord r && ltb p (idOf r)) _ h in
     ap₂ _∷_ (record-back r (both (legalRecord r) _ (q .0) .0)) (records-back (idOf r) rs (q .1))
 
--- as many legal sets, rising, as the header says, written over words that have room for them: they are read back, the table
--- is legal, and the words past it are as they were
-module _ (ws : List ℕ) (z : sized ws ≡ true) (rs : List Record) (same : length rs ≡ count ws) (h : legalSets 0 rs ≡ true) where
-  written-rows : rows (written ws rs) ≡ map wordsOf rs
-  unfolding written
-  written-rows = rw (from-count ws 0 rs, ← same) (from-rows ws 0 rs (omega (arith, sized-known ws z .room)))
+-- a card that these words have room for: some sets, not too many, legal and rising
+pub record Fitting (ws : List ℕ) (c : Card) : Type 0 where
+  pub range : inRange maxSets (length (c .sets)) ≡ true
+  pub legal : legalSets 0 (c .sets) ≡ true
+  pub room : rowStart (length (c .sets)) ≤ length ws
 
-  pub written-back : recordsOf (written ws rs) ≡ rs
+-- it is read back, the table is legal, and the words past it are as they were
+module _ (ws : List ℕ) (c : Card) (f : Fitting ws c) where
+  headed : List ℕ
+  headed = sets ws 0 (header c)
+
+  headed-long : length headed ≡ length ws
+  unfolding headed
+  headed-long = length-sets ws 0 (header c)
+
+  headed-layout : layout headed ≡ layoutNumber
+  unfolding headed
+  headed-layout = getD-set-other (set ws 0 layoutNumber) 1 0 (length (c .sets)) 0 (λ e. omega arith) ∙ getD-set-same ws 0 layoutNumber 0 (omega (arith, f .room))
+
+  headed-count : count headed ≡ length (c .sets)
+  unfolding headed
+  headed-count = getD-set-same (set ws 0 layoutNumber) 1 (length (c .sets)) 0 (omega (arith, f .room, length-set ws 0 layoutNumber))
+
+  written-layout : layout (written ws c) ≡ layoutNumber
+  unfolding written writtenRows headed
+  written-layout = from-header headed 0 (c .sets) 0 (omega arith) ∙ headed-layout
+
+  written-count : count (written ws c) ≡ length (c .sets)
+  unfolding written writtenRows headed
+  written-count = from-header headed 0 (c .sets) 1 (omega arith) ∙ headed-count
+
+  written-rows : rows (written ws c) ≡ map wordsOf (c .sets)
+  unfolding written writtenRows headed
+  written-rows = rw written-count (from-rows headed 0 (c .sets) (omega (arith, f .room, headed-long)))
+
+  pub written-back : cardOf (written ws c) ≡ c
   unfolding recordsOf
-  written-back = ap (map recordOf) written-rows ∙ records-back 0 rs h
+  written-back = ap (λ (rs : List Record). record { sets = rs }) (ap (map recordOf) written-rows ∙ records-back 0 (c .sets) (f .legal))
 
-  pub written-legal : legalTable (written ws rs) ≡ true
-  unfolding legalTable written
-  written-legal = together (sized (written ws rs)) _ (rw (from-count ws 0 rs, from-length ws 0 rs) z) (rw written-rows (rows-of-sets 0 rs h))
+  pub written-legal : legalTable (written ws c) ≡ true
+  unfolding legalTable
+  written-legal =
+      together (sized (written ws c)) _
+      (rw (written-layout, written-count, length-written ws c, f .range) (le-leb _ _ (f .room)))
+      (rw written-rows (rows-of-sets 0 (c .sets) (f .legal)))
 
-  pub written-rest : drop (rowStart (count ws)) (written ws rs) ≡ drop (rowStart (count ws)) ws
-  unfolding written
-  written-rest = from-rest ws 0 (count ws) rs (omega arith)
+  pub written-rest : drop (rowStart (length (c .sets))) (written ws c) ≡ drop (rowStart (length (c .sets))) ws
+  unfolding written writtenRows
+  written-rest =
+      from-rest (sets ws 0 (header c)) 0 (length (c .sets)) (c .sets) (omega arith) ∙ drop-sets (header c) ws 0 (rowStart (length (c .sets))) (omega arith)
 
-pub legal-sized : (ws : List ℕ) → Legal ws → sized ws ≡ true
-unfolding legalTable
-legal-sized ws l = both (sized ws) _ (l .legal) .0
+-- as many sets as a legal table has, legal and rising, fit there
+pub fitting : (ws : List ℕ) → Legal ws → (c : Card) → length (c .sets) ≡ count ws → legalSets 0 (c .sets) ≡ true → Fitting ws c
+fitting ws l c e h =
+    record {
+      range = rw e (together (leb 1 (count ws)) _ (le-leb _ _ (l .some)) (le-leb _ _ (l .few)));
+      legal = h;
+      room = rw e (l .room);
+    }

@@ -1,3 +1,4 @@
 pub mod Layout
+pub mod Card
 pub mod Table
 pub mod LegalWords

@@ -16,13 +16,14 @@ use Rattle.table.specs.declared.Found.the-variants.{At, Nothing}
 use Rattle.table.specs.declared.Entry.{Entry}
 use Rattle.table.specs.declared.Entry.the-variants.{Bad, Unknown, Here}
 use Rattle.table.specs.Layout.{rowWords, wordsOf, recordOf}
+use Rattle.table.specs.Card.{Card, layoutNumber, headerWords, header}
 
--- the header's words: the number of sets
-abbrev pub headerWords : ℕ
-headerWords = 1
+-- what the header says: the number of the layout, and that of the sets
+abbrev pub layout : List ℕ → ℕ
+layout ws = getD ws 0 0
 
 abbrev pub count : List ℕ → ℕ
-count ws = getD ws 0 0
+count ws = getD ws 1 0
 
 -- where the row of a slot starts, which for the slot after the last is the table's length
 abbrev pub rowStart : ℕ → ℕ
@@ -46,6 +47,10 @@ rows ws = rowsFrom ws 0 (count ws)
 -- the records of a table, in the order of its slots
 unfoldable pub recordsOf : List ℕ → List Record
 recordsOf ws = map recordOf (rows ws)
+
+-- the card that a table holds
+abbrev pub cardOf : List ℕ → Card
+cardOf ws = record { sets = recordsOf ws }
 
 abbrev pub idOf : Record → ℕ
 idOf r = r .attributes .id .0
@@ -80,8 +85,9 @@ legalSets before (r ∷ rs) = legalRecord r && ltb before (idOf r) && legalSets 
 abbrev pub roomFor : ℕ → ℕ → Bool
 roomFor n room = inRange maxSets n && leb (rowStart n) room
 
+-- this layout, and such a number of sets
 abbrev pub sized : List ℕ → Bool
-sized ws = roomFor (count ws) (length ws)
+sized ws = eqb (layout ws) layoutNumber && roomFor (count ws) (length ws)
 
 -- how many words the table of n sets takes, or 0 where so much room has none of that number
 abbrev pub extentOf : ℕ → ℕ → ℕ
@@ -91,8 +97,9 @@ extentOf n room = if roomFor n room then rowStart n else 0
 unfoldable pub legalTable : List ℕ → Bool
 legalTable ws = sized ws && legalRows 0 (rows ws)
 
--- what a legal table has: some sets, not too many, and room for them
+-- what a legal table has: this layout, some sets, not too many, and room for them
 pub record Legal (ws : List ℕ) : Type 0 where
+  pub known : layout ws ≡ layoutNumber
   pub some : 1 ≤ count ws
   pub few : count ws ≤ maxSets
   pub room : rowStart (count ws) ≤ length ws
@@ -116,13 +123,17 @@ entryOf Nothing = Unknown
 unfoldable pub enterIn : List ℕ → ℕ → Entry
 enterIn ws id = if legalTable ws then entryOf (findIn ws id) else Bad
 
--- the table with these records in the slots from `slot` on
+-- the table with these records in the slots from `slot` on, its header as it was
 abbrev pub writtenFrom : List ℕ → ℕ → List Record → List ℕ
 writtenFrom ws slot [] = ws
 writtenFrom ws slot (r ∷ rs) = writtenFrom (put ws slot (wordsOf r)) (suc slot) rs
 
-unfoldable pub written : List ℕ → List Record → List ℕ
-written ws rs = writtenFrom ws 0 rs
+unfoldable pub writtenRows : List ℕ → List Record → List ℕ
+writtenRows ws rs = writtenFrom ws 0 rs
+
+-- the table with this card: its header, and its sets in their slots
+unfoldable pub written : List ℕ → Card → List ℕ
+written ws c = writtenRows (sets ws 0 (header c)) (c .sets)
 
 -- the listed marks of all sets, as one word of bits
 abbrev pub listedMarks : List Record → List Bool

@@ -9,8 +9,10 @@ ghost use lib.ListN.{length, replicate};
 ghost use lib.Seq.{sets};
 ghost use Rattle.table.specs.Layout.{wordsOf, recordOf};
 ghost use Rattle.record.specs.Legal.{maxSets};
+ghost use Rattle.table.specs.Card.{headerWords};
 ghost use Rattle.table.specs.Table.{count, rowStart, row, rows, put, extentOf, sized, legalRows, legalTable, Legal, idOf, recordsOf, findIn, enterIn, listedWord};
 use crate::rows::HEADER;
+use crate::rows::LAYOUT;
 use crate::rows::LISTED;
 use crate::rows::ROW;
 use crate::rows::follows;
@@ -71,10 +73,10 @@ fn wide(x: u64) -> usize
 
 // The number of sets.
 pub fn count_of(table: &[u64]) -> usize
-    requires { ⌜ 1 ≤ length (now table) ⌝ }
+    requires { ⌜ headerWords ≤ length (now table) ⌝ }
     ensures { λ r. ⌜ r ≡ count (now (table .entry)) ⌝ }
 {
-    wide(table[0])
+    wide(table[1])
 }
 
 // How many words the table of n sets takes, or 0 where so much room has none of that number.
@@ -92,10 +94,11 @@ pub fn extent(n: usize, room: usize) -> usize
 fn fits(table: &[u64]) -> bool
     ensures { λ r. ⌜ r ≡ sized (now (table .entry)) ⌝ }
 {
-    if table.len() == 0 {
+    if table.len() < HEADER {
         return false;
     }
-    0 < extent(wide(table[0]), table.len())
+    let known = table[0] == LAYOUT;
+    known & (0 < extent(wide(table[1]), table.len()))
 }
 
 fn rows_legal(table: &[u64], n: usize) -> bool
@@ -120,7 +123,7 @@ pub fn legal(table: &[u64]) -> bool
     ensures { λ r. ⌜ r ≡ legalTable (now (table .entry)) ⌝ }
 {
     if fits(table) {
-        rows_legal(table, wide(table[0]))
+        rows_legal(table, wide(table[1]))
     } else {
         false
     }
@@ -130,7 +133,7 @@ pub fn find(table: &[u64], id: SetId) -> Found
     requires { ⌜ Legal (now table) ⌝ }
     ensures { λ r. ⌜ r ≡ findIn (now (table .entry)) (id .0) ⌝ }
 {
-    let n = wide(table[0]);
+    let n = wide(table[1]);
     let want = id.0 as u64;
     let mut i = 0;
     while i < n {
@@ -162,7 +165,7 @@ pub fn listed_word(table: &[u64]) -> u64
     ensures { λ r. ⌜ r ≡ listedWord (recordsOf (now (table .entry))) ⌝ }
 {
     let mut word: u64 = 0;
-    let mut i = wide(table[0]);
+    let mut i = wide(table[1]);
     while 0 < i {
         i -= 1;
         word = word * 2 + table[HEADER + i * ROW + LISTED];
@@ -175,7 +178,7 @@ pub fn identifiers(table: &[u64]) -> [u64; MAX_SETS]
     requires { ⌜ Legal (now table) ⌝ }
     ensures { λ r. ⌜ r ≡ sets (replicate maxSets 0) 0 (map idOf (recordsOf (now (table .entry)))) ⌝ }
 {
-    let n = wide(table[0]);
+    let n = wide(table[1]);
     let mut ids = [0u64; MAX_SETS];
     let mut i = 0;
     while i < n {

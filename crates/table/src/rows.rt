@@ -24,7 +24,10 @@ use record::notices::bits_of;
 use record::notices::events_in;
 use record::windows::window_no;
 
-pub const HEADER: usize = 1;
+// The header: the number of this layout, which every change of it raises, then the number of sets.
+pub const HEADER: usize = 2;
+
+pub const LAYOUT: u64 = 65537;
 
 pub const ROW: usize = 24;
 

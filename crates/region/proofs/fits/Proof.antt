@@ -1,10 +1,11 @@
-use mathlib.Core.Path.{sym, _∙_}
+use mathlib.Core.Path.{sym}
 use Prim.Native.Nat.{_/_}
+use native.Mathlib.Omega.{arith}
 use borrow.Author.Needs.{needs}
 use lib.ListN.{length}
 use Rattle.octets.specs.Words.{wordSize}
 use Rattle.table.specs.Table.{count}
-use Rattle.table.proofs.Known.{sized-empty, some-extent}
+use Rattle.table.proofs.Known.{sized-short, some-extent}
 use Rattle.region.specs.Region.{tableIn}
 use Rattle.region.proofs.Words.{length-in}
 use Rattle.region.proofs.fits.Statement.{statement}
@@ -14,9 +15,11 @@ pub fits-spec : {M : Type 1} → statement M
 fits-spec =
     tie.close
     (tie.spec
-    (λ c. let b = c .before .before .args .bytes .now in sym (sized-empty (tableIn b) (length-in b ∙ c .if1 .taken)))
+    (λ c. let b = c .before .before .args .bytes .now in sym (sized-short (tableIn b) (omega (arith, length-in b, c .if1 .taken))))
+    (λ c κs. search needs)
     (λ c κs. search needs)
     (λ c κs. search needs)
     (λ c.
-    let b = c .before .before .before .before .args .bytes .now in
-    rw (c .extent .ensures, c .before .count-of .ensures, length-in b) (some-extent (count (tableIn b)) (length b / wordSize))))
+    let n = c .before in
+    let b = n .before .before .before .before .args .bytes .now in
+    rw (c .extent .ensures, n .count-of .ensures, n .before .word-of .ensures, length-in b, some-extent (count (tableIn b)) (length b / wordSize))))

@@ -3,7 +3,7 @@ use mathlib.Core.List.{map}
 use Prim.Native.Nat.{_-_, _≤_}
 use borrow.Author.Needs.{needs}
 use lib.ListN.{length}
-use Rattle.table.specs.Table.{recordsOf, written}
+use Rattle.table.specs.Table.{recordsOf, writtenRows}
 use Rattle.table.proofs.Written.{leftToDo, all-start, all-end, all-again}
 use Rattle.steps.specs.Media.{tickOne}
 use Rattle.card.proofs.media.tick_all.Statement.{statement}
@@ -11,7 +11,7 @@ use Rattle.card.proofs.media.tick_all.Tie as tie
 
 abbrev Inv-loop : tie.InvT-loop
 Inv-loop table₀ n t i₀ table i =
-    (i ≤ n) × (length table ≡ length table₀) × (leftToDo (tickOne t) table n i ≡ written table₀ (map (tickOne t) (recordsOf table₀)))
+    (i ≤ n) × (length table ≡ length table₀) × (leftToDo (tickOne t) table n i ≡ writtenRows table₀ (map (tickOne t) (recordsOf table₀)))
 
 abbrev μ-loop : tie.MeasureT-loop
 μ-loop table₀ n t i₀ table i = n - i

@@ -1,9 +1,9 @@
-use native.Mathlib.Omega.{arith}
-use lib.ListN.{length, length-set}
 use mathlib.Core.Path.{ap, _∙_}
-use Rattle.table.proofs.Written.{length-written}
+use native.Mathlib.Omega.{arith}
 use borrow.Author.Needs.{needs}
-use Rattle.steps.proofs.NewSets.{well, set-up-refused, set-up-done}
+use lib.ListN.{length}
+use Rattle.table.proofs.Written.{length-rows-written}
+use Rattle.steps.proofs.NewSets.{well, set-up-refused, set-up-done, headed-length, headed-rows}
 use Rattle.card.proofs.setting.set_up.Statement.{statement}
 use Rattle.card.proofs.setting.set_up.Tie as tie
 
@@ -12,13 +12,26 @@ set-up-spec =
     tie.close
     (tie.spec
     (λ c κs. search needs)
-    (λ c. let w = well _ _ _ (c .before .refusal .ensures) (c .if1 .taken) in omega (arith, w .room))
+    (λ c. search needs)
     (λ c κs.
-    let t = c .before in
+    let t = c .before .before in
     let w = well _ _ _ (t .before .refusal .ensures) (t .if1 .taken) in
-    (w .whole, simp length-set (w .room)))
-    (λ c. ap length (c .before .before .write-rows .ensures) ∙ simp (length-written, length-set))
+    omega (arith, w .room))
+    (λ c κs.
+    let p = c .before .before .before in
+    let t = p .before .before .before in
+    let a = t .before .before .before .before .args in
+    let w = well _ _ _ (t .before .refusal .ensures) (t .if1 .taken) in
+    let l = headed-length (a .bytes .now) (a .table .now) _ (p .copy-words .ensures) in
+    (w .whole, omega (arith, w .room, l)))
     (λ c.
-    let t = c .before .before .before .before in
-    set-up-done _ _ _ (t .before .refusal .ensures) (t .if1 .taken) _ (c .before .before .write-rows .ensures))
+    let v = c .before .before in
+    let p = v .before .before .before .before in
+    let a = p .before .before .before .before .before .before .before .args in
+    ap length (v .write-rows .ensures) ∙ length-rows-written _ _ ∙ headed-length (a .bytes .now) (a .table .now) _ (p .copy-words .ensures))
+    (λ c.
+    let v = c .before .before in
+    let p = v .before .before .before .before in
+    let t = p .before .before .before in
+    set-up-done _ _ _ (t .before .refusal .ensures) (t .if1 .taken) _ (headed-rows _ _ _ _ (p .copy-words .ensures) (v .write-rows .ensures)))
     (λ c. set-up-refused _ _ _ (c .before .refusal .ensures) (c .if1 .left)))

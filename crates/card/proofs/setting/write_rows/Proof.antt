@@ -3,7 +3,7 @@ use mathlib.Core.List.{map}
 use Prim.Native.Nat.{_-_, _*_, _≤_}
 use borrow.Author.Needs.{needs}
 use lib.ListN.{length}
-use Rattle.table.specs.Table.{written}
+use Rattle.table.specs.Table.{writtenRows}
 use Rattle.pages.specs.Bodies.{bodySize}
 use Rattle.steps.specs.SetUp.{newRecord, attributesFrom}
 use Rattle.steps.proofs.NewSets.{rowsLeft, rows-start, rows-end, rows-again}
@@ -13,7 +13,7 @@ use Rattle.card.proofs.setting.write_rows.Tie as tie
 abbrev Inv-loop : tie.InvT-loop
 Inv-loop table₀ bytes n at₀ i₀ table at i =
     (i ≤ n) × (at ≡ i * bodySize) × (length table ≡ length table₀)
-    × (rowsLeft table bytes n i at ≡ written table₀ (map newRecord (attributesFrom bytes 0 n)))
+    × (rowsLeft table bytes n i at ≡ writtenRows table₀ (map newRecord (attributesFrom bytes 0 n)))
 
 abbrev μ-loop : tie.MeasureT-loop
 μ-loop table₀ bytes n at₀ i₀ table at i = n - i

@@ -2,7 +2,7 @@ use Prim.Native.Nat.{ℕ, _-_}
 use native.Mathlib.Omega.{arith}
 use borrow.Author.Needs.{needs}
 use Rattle.steps.specs.Media.{tickOne}
-use Rattle.steps.proofs.Frame.{length-records}
+use Rattle.table.proofs.Known.{length-records}
 use Rattle.region.proofs.Words.{length-in}
 use Rattle.region.proofs.Rows.{Undone, undone-start, undone-legal, undone-turn, undone-all}
 use Rattle.region.specs.Region.{tableIn}

@@ -1,11 +1,12 @@
-use mathlib.Core.Path.{_≡_, ap, _∙_}
+use mathlib.Core.Path.{ap, _∙_}
+use mathlib.Core.List.{[], _∷_}
 use Prim.Native.Nat.{ℕ, _/_}
 use native.Mathlib.Omega.{arith}
 use borrow.Author.Needs.{needs}
 use lib.ListN.{length}
-use lib.Seq.{length-sets}
-use Rattle.octets.specs.Octets.{bytesOf}
 use Rattle.octets.specs.Words.{wordSize}
+use Rattle.octets.proofs.Passed.{length-put-words}
+use Rattle.table.specs.Card.{layoutNumber}
 use Rattle.steps.specs.SetUp.{bodies}
 use Rattle.steps.proofs.NewSets.{well}
 use Rattle.card_c.proofs.Filling.{new-refused, new-done}
@@ -17,29 +18,30 @@ set-up-spec =
     tie.close
     (tie.spec
     (λ c κs. search needs)
+    (λ c. search needs)
     (λ c κs.
-    let t = c .before in
+    let t = c .before .before in
     let r = t .before in
     let a = r .before .before .before .args in
     let w = well (a .bodies .now) (length (a .region .now) / wordSize) _ (r .refusal .ensures) (t .if1 .taken) in
     omega (arith, w .room))
     (λ c κs.
     let p = c .before .before .before in
-    let t = p .before .before in
+    let t = p .before .before .before in
     let r = t .before in
     let a = r .before .before .before .args in
     let w = well (a .bodies .now) (length (a .region .now) / wordSize) _ (r .refusal .ensures) (t .if1 .taken) in
-    let l = ap length (p .put .ensures) ∙ length-sets (a .region .now) 0 (bytesOf wordSize (bodies (a .bodies .now))) in
+    let l = ap length (p .words-out .ensures) ∙ length-put-words (layoutNumber ∷ bodies (a .bodies .now) ∷ []) (a .region .now) 0 in
     (w .whole, omega (arith, w .room, l)))
     (λ c. search needs)
     (λ c.
     let v = c .before .before in
     let p = v .before .before .before .before in
-    let t = p .before .before in
+    let t = p .before .before .before in
     let r = t .before in
     let k = r .before .before in
     let a = k .before .args in
-    new-done (a .bodies .now) (a .region .now) _ (λ (i : ℕ). k .slice-known .given i .fits) (r .refusal .ensures) (t .if1 .taken) _ _ (p .put .ensures) (v .write-rows .ensures))
+    new-done (a .bodies .now) (a .region .now) _ (λ (i : ℕ). k .slice-known .given i .fits) (r .refusal .ensures) (t .if1 .taken) _ _ (p .words-out .ensures) (v .write-rows .ensures))
     (λ c.
     let r = c .before in
     let k = r .before .before in

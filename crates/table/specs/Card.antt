@@ -1,0 +1,21 @@
+-- What the whole card keeps, and the words of a table that hold it apart from the sets' own: the header.
+use mathlib.Core.List.{List, [], _∷_}
+use Prim.Native.Nat.{ℕ}
+use lib.ListN.{length}
+use Rattle.record.specs.declared.Record.{Record}
+
+pub record Card : Type 0 where
+  pub sets : List Record
+
+-- The number of this layout, which stands in front, so that a table that another version of the library wrote is refused and not
+-- misread. Every change of the layout raises it. It is always above 65,535: older tables had their number of sets in this
+-- word, and no number of sets is ever taken for it.
+abbrev pub layoutNumber : ℕ
+layoutNumber = 65537
+
+-- the header's words: the number of the layout, and that of the sets
+abbrev pub headerWords : ℕ
+headerWords = 2
+
+abbrev pub header : Card → List ℕ
+header c = layoutNumber ∷ length (c .sets) ∷ []
