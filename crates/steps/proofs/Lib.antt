@@ -20,3 +20,4 @@ pub mod Exact
 pub mod Idle
 pub mod Named
 pub mod Past
+pub mod Order

@@ -9,4 +9,5 @@ pub mod OnSet
 pub mod Views
 pub mod Media
 pub mod SetUp
+pub mod Order
 pub mod Demands

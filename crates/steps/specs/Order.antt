@@ -1,0 +1,66 @@
+-- 01's rows are "checked in this order": four inputs to which several rows apply, so that the order is told, and their answers.
+use mathlib.Core.Path.{_≡_}
+use mathlib.Core.List.{List, [], _∷_, _++_}
+use Prim.Native.Nat.{ℕ, _+_, _*_, _^_}
+use lib.ListN.{replicate}
+use Rattle.octets.specs.Octets.{bytesOf}
+use Rattle.record.specs.declared.Attributes.{Attributes}
+use Rattle.replies.specs.Numbers.{badTable, invalidField, notSaveable}
+use Rattle.steps.specs.Items.{Card, Item, command}
+use Rattle.steps.specs.Card.{answer}
+use Rattle.steps.specs.Words.{stepWords}
+use Rattle.steps.specs.SetUp.{newRecord}
+
+-- a card with set 7, off
+abbrev seven : Attributes
+seven =
+    record {
+      id = record { 0 = 7 };
+      group = record { 0 = 1 };
+      «random_read_typical» = 0;
+      «optimal_write_size» = 0;
+      total = record { low = 0; high = 0 };
+      unallocated = record { low = 0; high = 0 };
+      «reads_typical» = 100;
+      «writes_typical» = 50;
+      «time_maximum» = 1000;
+      «minimum_high» = 20;
+      «minimum_low» = 5;
+    }
+
+abbrev pub card : Card
+card = record { sets = newRecord seven ∷ [] }
+
+-- Set Features of a FID, with Save, of a set; no data
+abbrev setSaved : ℕ → ℕ → Item
+setSaved fid set = command (bytesOf 4 0x09 ++ replicate 36 0 ++ bytesOf 4 (fid + 2 ^ 31) ++ bytesOf 4 set ++ replicate 16 0) [] 0
+
+abbrev setPlain : ℕ → ℕ → Item
+setPlain fid set = command (bytesOf 4 0x09 ++ replicate 36 0 ++ bytesOf 4 fid ++ bytesOf 4 set ++ replicate 16 0) [] 0
+
+pub record Case : Type 0 where
+  pub answered : ℕ
+  pub expected : ℕ
+
+abbrev case : ℕ → ℕ → Case
+case answered expected = record { answered = answered; expected = expected }
+
+unfoldable pub cases : List Case
+cases =
+    -- no table, and a command of 65 bytes: "table not legal" before "command not of 64 bytes"
+    case (stepWords [] (command (replicate 65 0) [] 0) .answer .status) badTable
+    -- FID 15h with Save: "FID or CNS not listed" before "Set Features with Save"
+    ∷ case (answer card (setSaved 0x15 7) .status) invalidField
+    -- 13h with Save of set 9, which is not there: "Set Features with Save" before "set not in the table"
+    ∷ case (answer card (setSaved 0x13 9) .status) notSaveable
+    -- 13h of set 9 without its data: "set not in the table" before "data in .. shorter than needed"
+    ∷ case (answer card (setPlain 0x13 9) .status) invalidField
+    ∷ []
+
+abbrev pub All : List Case → Type 0
+All [] = Unit {0}
+All (c ∷ cs) = (c .answered ≡ c .expected) × All cs
+
+-- proved as `order` in proofs/Order.antt
+abbrev pub Order : Type 0
+Order = All cases
