@@ -5,7 +5,7 @@
 use by_reference::callers::charge_lent;
 use by_reference::callers::set_up_full;
 use by_reference::callers::set_up_three;
-use card::setting::BODY;
+use pages::bodies::BODY;
 use pages::bodies::attributes_in;
 use record::Attributes;
 use record::legal::MAX_SETS;
