@@ -328,7 +328,8 @@ impl<'a> Cases<'a> {
 /// The status, dword 0 and length of zero, and nothing written.
 fn refused(call: &Call, status: u16) -> Outcome {
     let mut regions = call.regions.clone();
-    regions.reply.lend().fill(0);
+    // As far as it reaches, and no byte past the sixteenth.
+    regions.reply.lend().iter_mut().take(16).for_each(|byte| *byte = 0);
     Outcome { status, regions }
 }
 

@@ -116,7 +116,7 @@ fn take_answer(output: &mut impl Read, lent: Lent, kind: u8, call: &Call) -> Out
     read(&mut regions.table.lend()[lent.place(call)]);
     read(regions.answer.lend());
     assert!(regions.answer.content().starts_with(&part), "the part handed back is not the start of the answer buffer");
-    if call.function != Function::SetUp && lent == Lent::Words {
+    if call.function != Function::SetUp {
         // 15:8 are zero.
         for (place, &byte) in regions.reply.lend().iter_mut().zip(reply.iter().chain(&[0; 8])) {
             *place = byte;
