@@ -89,11 +89,13 @@ extern "C" {
 #define CARD_REPLY_LENGTH 4
 #define CARD_REPLY_RESERVED 8
 
-#define CARD_COMMAND_STACK_BYTES 5632 /* of card_command, with all that it calls but memcpy and memset */
-#define CARD_STACK_BYTES 768          /* of any other function, likewise */
+/* How much stack a call takes at most, with all that it calls but memcpy and memset. Measured: card_command 5,096, card_reads and
+   card_writes 336, card_tick 256, card_excursion 240, card_set_up 184. */
+#define CARD_COMMAND_STACK_BYTES 5632
+#define CARD_STACK_BYTES 768 /* of any function but card_command */
 
-/* How many bytes the table of so many sets takes. Bytes after them are neither read nor written. A table keeps the number of its
-   layout: one that another version of the library wrote is CARD_BAD_TABLE, and set-up makes it anew. */
+/* How many bytes the table of so many sets takes: 208 for one set, 5,968 for 31. Bytes after them are neither read nor written. A
+   table keeps the number of its layout: one that another version of the library wrote is CARD_BAD_TABLE, and set-up makes it anew. */
 #define CARD_TABLE_BYTES(sets) (8u * (2u + 24u * (sets)))
 
 /*

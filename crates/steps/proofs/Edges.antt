@@ -20,25 +20,10 @@ use Rattle.steps.specs.Items.{Card, Item, reads, excursion, tick, comman
 use Rattle.commands.specs.Commands.{commandIn}
 use Rattle.steps.specs.Commanded.{commandMeaning}
 use Rattle.steps.specs.Meanings.{meaning}
+use Rattle.steps.specs.Order.{seven}
 use Rattle.steps.specs.Card.{refusalOf, effectOn, concerns, touched, answer, Outcome, step}
 
--- ---- the set, and the cards to start from
-
-abbrev pub seven : Attributes
-seven =
-    record {
-      id = record { 0 = 7 };
-      group = record { 0 = 1 };
-      «random_read_typical» = 0;
-      «optimal_write_size» = 0;
-      total = record { low = 0; high = 0 };
-      unallocated = record { low = 0; high = 0 };
-      «reads_typical» = 100;
-      «writes_typical» = 50;
-      «time_maximum» = 1000;
-      «minimum_high» = 20;
-      «minimum_low» = 5;
-    }
+-- ---- the cards to start from
 
 abbrev pub configOf : Events → ℕ → Config
 configOf e limit = record { enabled = e; thresholds = record { reads = limit; writes = 0; time = 0 } }

@@ -11,8 +11,8 @@ use Rattle.steps.specs.Card.{answer}
 use Rattle.steps.specs.Words.{stepWords}
 use Rattle.steps.specs.SetUp.{newRecord}
 
--- a card with set 7, off
-abbrev seven : Attributes
+-- 01's set 7: "typicals 100 and 50, maximum 1000, high 20, low 5"
+abbrev pub seven : Attributes
 seven =
     record {
       id = record { 0 = 7 };
@@ -28,6 +28,7 @@ seven =
       «minimum_low» = 5;
     }
 
+-- a card with that set, off
 abbrev pub card : Card
 card = record { sets = newRecord seven ∷ [] }
 
