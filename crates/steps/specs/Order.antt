@@ -1,7 +1,7 @@
 -- 01's rows are "checked in this order": four inputs to which several rows apply, so that the order is told, and their answers.
 use mathlib.Core.Path.{_≡_}
 use mathlib.Core.List.{List, [], _∷_, _++_}
-use Prim.Native.Nat.{ℕ, _+_, _*_, _^_}
+use Prim.Native.Nat.{ℕ, _+_, _^_}
 use lib.ListN.{replicate}
 use Rattle.octets.specs.Octets.{bytesOf}
 use Rattle.record.specs.declared.Attributes.{Attributes}
@@ -32,12 +32,16 @@ seven =
 abbrev pub card : Card
 card = record { sets = newRecord seven ∷ [] }
 
--- Set Features of a FID, with Save, of a set; no data
-abbrev setSaved : ℕ → ℕ → Item
-setSaved fid set = command (bytesOf 4 0x09 ++ replicate 36 0 ++ bytesOf 4 (fid + 2 ^ 31) ++ bytesOf 4 set ++ replicate 16 0) [] 0
+-- Set Features: opcode 09h in byte 0, then from byte 40 on CDW10 and CDW11; no data, no answer buffer
+abbrev setFeatures : ℕ → ℕ → Item
+setFeatures cdw10 cdw11 = command (bytesOf 4 0x09 ++ replicate 36 0 ++ bytesOf 4 cdw10 ++ bytesOf 4 cdw11 ++ replicate 16 0) [] 0
 
+-- of a FID (CDW10 7:0) and a set (CDW11 15:0), without and with Save (CDW10 bit 31)
 abbrev setPlain : ℕ → ℕ → Item
-setPlain fid set = command (bytesOf 4 0x09 ++ replicate 36 0 ++ bytesOf 4 fid ++ bytesOf 4 set ++ replicate 16 0) [] 0
+setPlain fid set = setFeatures fid set
+
+abbrev setSaved : ℕ → ℕ → Item
+setSaved fid set = setFeatures (fid + 2 ^ 31) set
 
 pub record Case : Type 0 where
   pub answered : ℕ
