@@ -15,7 +15,7 @@ use Rattle.octets.specs.Choice.{if_then_else_}
 use Rattle.octets.specs.Octets.{padded}
 use Rattle.octets.proofs.Runs.{sets-append, padded-whole}
 use Rattle.record.specs.declared.Attributes.{Attributes}
-use Rattle.record.specs.Legal.{maxSets}
+use Rattle.table.specs.Table.{maxSets}
 use Rattle.replies.specs.Numbers.{badSetUp}
 use Rattle.replies.specs.Answers.{refused}
 use Rattle.pages.specs.Bodies.{bodySize, body, attributesIn}

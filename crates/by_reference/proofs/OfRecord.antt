@@ -3,15 +3,16 @@ use mathlib.Core.Path.{_≡_, refl, sym, subst, _∙_}
 use mathlib.Core.Bool.{true}
 use Prim.Native.Nat.{ℕ}
 use Rattle.record.specs.declared.Record.{Record}
-use Rattle.record.specs.Events.{settled}
+use Rattle.record.specs.Record.{idOf}
+use Rattle.record.specs.Event.{settled}
 use Rattle.record.specs.Legal.{legalRecord, KeepsState}
 use Rattle.rules.proofs.Keeps.{keeps-record, read-event-keeps, write-event-keeps, excursion-keeps}
-use Rattle.table.specs.Table.{idOf}
-use Rattle.steps.specs.declared.Media.{Media}
-use Rattle.steps.specs.declared.Media.the-variants.{Reads, Writes, Excursion}
-use Rattle.steps.specs.Media.{itemOf, mediaRule}
+use Rattle.rules.specs.declared.Media.{Media}
+use Rattle.rules.specs.declared.Media.the-variants.{Reads, Writes, Excursion}
+use Rattle.rules.specs.Rules.{mediaRule}
+use Rattle.steps.specs.Items.{itemOf}
 use Rattle.steps.specs.Card.{effectOn, ruled}
-use Rattle.steps.proofs.Events.{meaning-media}
+use Rattle.steps.proofs.Named.{meaning-media}
 use Rattle.by_reference.specs.Records.{ChargedInPlace, StaysLegal}
 
 -- the step's rule for an event is the media layer's

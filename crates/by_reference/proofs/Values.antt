@@ -4,14 +4,14 @@ use denote.Struct.Laws as LL
 use denote.Enum.Laws as EL
 use Rattle.record.specs.declared.Attributes.{Attributes}
 use Rattle.record.specs.declared.Record.{Record}
-use Rattle.steps.specs.declared.Media.{Media}
+use Rattle.rules.specs.declared.Media.{Media}
 use Rattle.by_reference.specs.declared.records.Charged.{Charged}
 use Rattle.record.proofs.Attributes as A
 use Rattle.record.proofs.Attributes.Laws as A′
 use Rattle.record.proofs.Record as R
 use Rattle.record.proofs.Record.Laws as R′
-use Rattle.steps.proofs.Media as N
-use Rattle.steps.proofs.Media.Laws as N′
+use Rattle.rules.proofs.Media as N
+use Rattle.rules.proofs.Media.Laws as N′
 use Rattle.by_reference.proofs.records.Charged as C
 use Rattle.by_reference.proofs.records.Charged.Laws as C′
 

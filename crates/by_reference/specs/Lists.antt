@@ -4,7 +4,7 @@ use mathlib.Core.List.{List, [], _∷_, _++_, map}
 use Prim.Native.Nat.{ℕ, _<_}
 use lib.ListN.{length}
 use Rattle.record.specs.declared.Attributes.{Attributes}
-use Rattle.record.specs.Legal.{maxSets}
+use Rattle.table.specs.Table.{maxSets}
 use Rattle.replies.specs.Numbers.{badSetUp}
 use Rattle.pages.specs.Bodies.{body, AllSized}
 use Rattle.steps.specs.SetUp.{newRecord, newSets, SetUp}

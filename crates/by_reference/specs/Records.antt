@@ -5,10 +5,10 @@ use Prim.Native.Nat.{ℕ}
 use Rattle.octets.specs.Choice.{if_then_else_}
 use Rattle.replies.specs.Numbers.{badTable}
 use Rattle.record.specs.declared.Record.{Record}
+use Rattle.record.specs.Record.{idOf}
 use Rattle.record.specs.Legal.{legalRecord}
-use Rattle.steps.specs.declared.Media.{Media}
-use Rattle.table.specs.Table.{idOf}
-use Rattle.steps.specs.Media.{itemOf}
+use Rattle.rules.specs.declared.Media.{Media}
+use Rattle.steps.specs.Items.{itemOf}
 use Rattle.steps.specs.Card.{ruled}
 use Rattle.by_reference.specs.declared.records.Charged.{Charged}
 

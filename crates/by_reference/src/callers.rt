@@ -9,8 +9,8 @@ use crate::records::Charged;
 use crate::records::charge;
 use record::Attributes;
 use record::Record;
-use record::legal::MAX_SETS;
-use steps::Media;
+use rules::Media;
+use table::MAX_SETS;
 
 // A copy is lent.
 pub fn charge_lent(r: Record, m: Media) -> Charged

@@ -8,7 +8,7 @@ use octets::least;
 use pages::bodies::BODY;
 use pages::bodies::body_of;
 use record::Attributes;
-use record::legal::MAX_SETS;
+use table::MAX_SETS;
 
 // Room for one body more than a table may have sets: a list that is longer still is refused as that one is.
 const ROOM: usize = (MAX_SETS + 1) * BODY;
@@ -29,7 +29,7 @@ fn set_up_from(table: &mut [u64], bytes: &[u8], n: usize) -> u16
     ensures { λ r. ⌜ SetUp (firstBodies (now (bytes .entry)) n) (now (table .entry)) (now (table .exit)) r ⌝ }
 {
     let end = least(n, bytes.len() / BODY) * BODY;
-    card::setting::set_up(table, &bytes[0..end])
+    card::set_up::set_up(table, &bytes[0..end])
 }
 
 pub fn set_up(table: &mut [u64], list: &[Attributes]) -> u16

@@ -4,7 +4,9 @@ ghost use Rattle.by_reference.specs.Records.{charged, ChargedInPlace};
 use by_value::media::after_event;
 use record::Record;
 use record::legal::record_legal;
-use steps::Media;
+use replies::numbers::BAD_TABLE;
+use replies::numbers::SUCCESS;
+use rules::Media;
 
 // A record after an event, and the status number.
 pub struct Charged {
@@ -20,12 +22,12 @@ fn charge_rule(r: Record, m: Media) -> Charged
         let after = after_event(r, m);
         Charged {
             record: after,
-            status: 0,
+            status: SUCCESS,
         }
     } else {
         Charged {
             record: r,
-            status: 0x07C3,
+            status: BAD_TABLE,
         }
     }
 }

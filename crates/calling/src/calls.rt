@@ -1,11 +1,11 @@
 // One call, and what it answered.
-use card::answering::command;
-use card::answering::command_part;
+use card::commanded::command;
+use card::commanded::command_part;
 use card::media::excursion;
 use card::media::reads;
 use card::media::ticks;
 use card::media::writes;
-use card::setting::set_up;
+use card::set_up::set_up;
 use record::SetId;
 use replies::Reply;
 use streams::HEAD;

@@ -8,8 +8,7 @@ use by_reference::callers::set_up_three;
 use pages::bodies::BODY;
 use pages::bodies::attributes_in;
 use record::Attributes;
-use record::legal::MAX_SETS;
-use steps::Media;
+use rules::Media;
 use streams::HEAD;
 use streams::count_in;
 use streams::give_reply;
@@ -20,9 +19,10 @@ use streams::sizes_in;
 use streams::take;
 use streams::take_words;
 use streams::words_part;
-use table::rows::ROW;
-use table::rows::record_of;
-use table::rows::words_of;
+use table::MAX_SETS;
+use table::layout::ROW;
+use table::layout::record_of;
+use table::layout::words_of;
 
 const WORDS: usize = 1024;
 

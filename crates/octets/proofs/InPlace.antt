@@ -9,7 +9,7 @@ use lib.Seq.{sets, drop-drop}
 use Rattle.octets.specs.Octets.{bytesOf, numberOf, part, AllBytes}
 use Rattle.octets.specs.Words.{wordSize, wordsFrom, putWords}
 use Rattle.octets.proofs.Runs.{sets-whole, sets-append}
-use Rattle.octets.proofs.Passed.{length-words, tail-bytes, words-append, own-words, put-append, put-rest}
+use Rattle.octets.proofs.WordBytes.{length-words, tail-bytes, words-append, own-words, put-append, put-rest}
 
 -- ---- reading
 

@@ -1,7 +1,9 @@
-pub mod Tests
+pub mod JoinedTests
+pub mod Lists
 pub mod Runs
 pub mod Turns
-pub mod Laws
+pub mod PutAndGet
 pub mod Pages
-pub mod Passed
+pub mod Reading
+pub mod WordBytes
 pub mod InPlace

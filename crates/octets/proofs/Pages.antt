@@ -1,19 +1,21 @@
 -- A page read back: proved once, over the table of fields.
-use mathlib.Core.Path.{_≡_, refl, ap, ap₂, _∙_}
+use mathlib.Core.Path.{_≡_, refl, sym, ap, ap₂, _∙_}
 use mathlib.Core.Bool.{true}
-use mathlib.Core.List.{List, [], _∷_}
+use mathlib.Core.List.{List, [], _∷_, _++_}
 use mathlib.Core.Logic.{inl}
-use Prim.Native.Nat.{ℕ, _+_, _-_, _≤_, _<_}
+use Prim.Native.Nat.{ℕ, suc, _+_, _-_, _≤_, _<_}
 use native.Mathlib.Omega.{arith}
+use native.Mathlib.Nat.{sub-zero}
 use native.Mathlib.Numerals.{add-one}
 use lib.Dec.{leb}
-use lib.ListN.{length, getD, drop, replicate, length-replicate, drop-of-length-le}
-use lib.Seq.{sets, length-sets, drop-cons}
+use lib.ListN.{length, getD, set, drop, replicate, length-set, length-replicate, drop-of-length-le}
+use lib.Seq.{sets, sets-eq, length-sets, drop-cons}
 use borrow.Author.Tests.{leb-true, le-leb}
 use Rattle.octets.specs.Octets.{bytesOf, numberOf, part}
 use Rattle.octets.specs.Pages.{Field, fieldOf, fieldsOf, puts, place, tidy, readings, Fit, values}
-use Rattle.octets.proofs.Laws.{get-put, get-other}
-use Rattle.octets.proofs.Tests.{both}
+use Rattle.octets.proofs.Runs.{sets-append}
+use Rattle.octets.proofs.PutAndGet.{length-bytes, get-put, get-other}
+use Rattle.octets.proofs.JoinedTests.{both}
 
 tidy-end : (fs : List Field) (from size : ℕ) → tidy from size fs ≡ true → from ≤ size
 tidy-end [] from size h = leb-true from size h
@@ -76,3 +78,105 @@ module _ (rows : List (List ℕ)) (i : ℕ) where
 pub placed : (size : ℕ) (fs : List Field) → puts (replicate size 0) fs ≡ place size fs
 unfolding place
 placed size fs = refl
+
+-- ---- a page made in place, on the first bytes of a list
+
+zero-turn : (l : List ℕ) (n i : ℕ) → i < n → sets (set l i 0) (i + 1) (replicate (n - (i + 1)) 0) ≡ sets l i (replicate (n - i) 0)
+zero-turn l n i h = let e : n - i ≡ suc (n - (i + 1)) = omega arith in rw (e, add-one)
+
+-- what holds at each turn of the loop that clears
+pub record Clearing (l₀ : List ℕ) (n : ℕ) (l : List ℕ) (i : ℕ) : Type 0 where
+  pub within : i ≤ n
+  pub long : length l ≡ length l₀
+  pub same : sets l i (replicate (n - i) 0) ≡ sets l₀ 0 (place n [])
+
+module _ (l₀ : List ℕ) (n : ℕ) where
+  pub clear-start : Clearing l₀ n l₀ 0
+  clear-start = record { within = omega arith; long = refl; same = rw sub-zero (ap (sets l₀ 0) (placed n [])) }
+
+  module _ (l : List ℕ) (i : ℕ) (c : Clearing l₀ n l i) where
+    pub clear-turn : i < n → Clearing l₀ n (set l i 0) (i + 1)
+    clear-turn h = record { within = omega arith; long = length-set l i 0 ∙ c .long; same = zero-turn l n i h ∙ c .same }
+
+    pub clear-end : n ≤ i → l ≡ sets l₀ 0 (place n [])
+    clear-end h = let e : n - i ≡ 0 = omega arith in rw e at (c .same)
+
+puts-blank : (size : ℕ) (fs : List Field) → puts (place size []) fs ≡ place size fs
+unfolding place
+puts-blank size fs = refl
+
+pub length-puts : (fs : List Field) (page : List ℕ) → length (puts page fs) ≡ length page
+length-puts [] page = refl
+length-puts (f ∷ fs) page =
+    length-puts fs (sets page (f .at) (bytesOf (f .width) (f .value))) ∙ length-sets page (f .at) (bytesOf (f .width) (f .value))
+
+pub length-place : (size : ℕ) (fs : List Field) → length (place size fs) ≡ size
+unfolding place
+length-place size fs = length-puts fs (replicate size 0) ∙ length-replicate size 0
+
+puts-append : (fs : List Field) (z m : List ℕ) → tidy 0 (length z) fs ≡ true → puts (z ++ m) fs ≡ puts z fs ++ m
+puts-append [] z m h = refl
+puts-append (f ∷ fs) z m h =
+    let t = tidy-first f fs (length z) h in
+    let v : List ℕ = bytesOf (f .width) (f .value) in
+    let room : f .at + length v ≤ length z = rw (length-bytes (f .width) (f .value)) (t .0) in
+    ap (λ (l : List ℕ). puts l fs) (sets-append v z m (f .at) room)
+    ∙ puts-append fs (sets z (f .at) v) m (rw (length-sets z (f .at) v) (t .1))
+
+-- fields put on a cleared start make the page there, and the rest is as it was
+pub puts-onto : (size : ℕ) (fs : List Field) (l : List ℕ) → tidy 0 size fs ≡ true → size ≤ length l
+    → puts (sets l 0 (place size [])) fs ≡ sets l 0 (place size fs)
+puts-onto size fs l h room =
+    let blank : List ℕ = place size [] in
+    let long : length blank ≡ size = length-place size [] in
+    let rest : List ℕ = drop (0 + size) l in
+    let start : sets l 0 blank ≡ blank ++ rest = sets-eq blank l 0 (omega arith) ∙ rw long in
+    let whole : length (place size fs) ≡ size = length-place size fs in
+    ap (λ (m : List ℕ). puts m fs) start
+    ∙ puts-append fs blank rest (rw long h)
+    ∙ ap (λ (m : List ℕ). m ++ rest) (puts-blank size fs)
+    ∙ sym (sets-eq (place size fs) l 0 (omega arith) ∙ rw whole)
+
+pub made-onto : (size : ℕ) (fs : List Field) (l start last : List ℕ) → tidy 0 size fs ≡ true → size ≤ length l
+    → start ≡ sets l 0 (place size []) → last ≡ puts start fs → last ≡ sets l 0 (place size fs)
+made-onto size fs l start last h room es el = el ∙ ap (λ (m : List ℕ). puts m fs) es ∙ puts-onto size fs l h room
+
+-- what straight calls of `put` make, one for each field: the page after it, what its value is, and what the call ensures
+abbrev pub PutsBy : List Field → List Field → List ℕ → List ℕ → Type 0
+PutsBy all [] start page = page ≡ puts start all
+PutsBy all (f ∷ fs) start page =
+    (next : List ℕ) (v : ℕ) → v ≡ f .value → next ≡ sets page (f .at) (bytesOf (f .width) v) → PutsBy all fs start next
+
+by : (all fs : List Field) (start page : List ℕ) → ((last : List ℕ) → last ≡ puts page fs → last ≡ puts start all) → PutsBy all fs start page
+by all [] start page k = k page refl
+by all (f ∷ fs) start page k =
+    λ next v w e.
+    by all fs start next
+    (λ last h. k last (h ∙ ap (λ (l : List ℕ). puts l fs) (e ∙ ap (λ (x : ℕ). sets page (f .at) (bytesOf (f .width) x)) w)))
+
+pub puts-by : (fs : List Field) (start : List ℕ) → PutsBy fs fs start start
+puts-by fs start = by fs fs start start (λ last h. h)
+
+pub puts-more : (fs gs : List Field) (page : List ℕ) → puts page (fs ++ gs) ≡ puts (puts page fs) gs
+puts-more [] gs page = refl
+puts-more (f ∷ fs) gs page = puts-more fs gs (sets page (f .at) (bytesOf (f .width) (f .value)))
+
+abbrev pub joined : List (List Field) → List Field
+joined [] = []
+joined (fs ∷ rest) = fs ++ joined rest
+
+-- the same of calls that put several fields each
+abbrev pub GroupsBy : List Field → List (List Field) → List ℕ → List ℕ → Type 0
+GroupsBy all [] start page = page ≡ puts start all
+GroupsBy all (fs ∷ rest) start page = (next : List ℕ) → next ≡ puts page fs → GroupsBy all rest start next
+
+in-groups : (all : List Field) (gs : List (List Field)) (start page : List ℕ)
+    → ((last : List ℕ) → last ≡ puts page (joined gs) → last ≡ puts start all) → GroupsBy all gs start page
+in-groups all [] start page k = k page refl
+in-groups all (fs ∷ rest) start page k =
+    λ next e.
+    in-groups all rest start next
+    (λ last h. k last (h ∙ ap (λ (l : List ℕ). puts l (joined rest)) e ∙ sym (puts-more fs (joined rest) page)))
+
+pub groups-by : (gs : List (List Field)) (start : List ℕ) → GroupsBy (joined gs) gs start start
+groups-by gs start = in-groups (joined gs) gs start start (λ last h. h)

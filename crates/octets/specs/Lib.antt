@@ -1,4 +1,6 @@
 pub mod Choice
+pub mod Lists
 pub mod Octets
+pub mod Numbers
 pub mod Pages
 pub mod Words

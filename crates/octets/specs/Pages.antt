@@ -6,6 +6,7 @@ use lib.Dec.{leb}
 use lib.ListN.{getD, replicate}
 use lib.Seq.{sets}
 use Rattle.octets.specs.Octets.{bytesOf, numberOf, part}
+use Rattle.octets.specs.declared.Place.{Place}
 
 -- a number of `width` bytes at a place of a page
 pub record Field : Type 0 where
@@ -15,6 +16,28 @@ pub record Field : Type 0 where
 
 abbrev pub field : ℕ → ℕ → ℕ → Field
 field at width value = record { at = at; width = width; value = value }
+
+-- ---- where a number lies, apart from the number: one list for the writer and the reader of a page
+
+abbrev pub span : ℕ → ℕ → Place
+span at width = record { at = at; width = width }
+
+-- numbers at places, in order
+abbrev pub fieldsAt : List Place → List ℕ → List Field
+fieldsAt [] vs = []
+fieldsAt (p ∷ ps) [] = []
+fieldsAt (p ∷ ps) (v ∷ vs) = field (p .at) (p .width) v ∷ fieldsAt ps vs
+
+-- the places of what starts at `from`
+abbrev pub placesFrom : ℕ → List Place → List Place
+placesFrom from [] = []
+placesFrom from (p ∷ ps) = span (from + p .at) (p .width) ∷ placesFrom from ps
+
+-- the number at a place of what starts at `from`
+abbrev pub readAt : List ℕ → ℕ → Place → ℕ
+readAt bytes from p = numberOf (part bytes (from + p .at) (p .width))
+
+-- ---- a page made
 
 -- fields put on a page, in order
 abbrev pub puts : List ℕ → List Field → List ℕ

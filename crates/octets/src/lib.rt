@@ -1,14 +1,19 @@
 // Numbers as little-endian bytes, pages made of fields, parts of pages and runs of words.
 // Nothing here knows of the card.
+pub mod casts;
+pub mod numbers;
 pub mod words;
 
 ghost use mathlib.Core.Path.{_≡_};
 ghost use mathlib.Core.Bool.{true};
+ghost use mathlib.Core.List.{[]};
 ghost use Prim.Native.Nat.{_+_, _<_, _≤_, min};
 ghost use lib.ListN.{length, getD};
 ghost use lib.Seq.{sets};
 ghost use Rattle.octets.specs.Octets.{bytesOf, numberOf, part, padded};
-ghost use Rattle.octets.specs.Pages.{fieldsOf, puts, tidy};
+ghost use Rattle.octets.specs.Pages.{fieldsOf, puts, place, tidy};
+use crate::casts::from_byte;
+use crate::words::WORD;
 
 // The lowest `width` bytes of `v`, lowest first, from place `at`.
 pub fn put(buf: &mut [u8], at: usize, width: usize, v: u64)
@@ -26,10 +31,18 @@ pub fn put(buf: &mut [u8], at: usize, width: usize, v: u64)
     }
 }
 
-pub(crate) fn wide(b: u8) -> u64
-    ensures { λ r. ⌜ (r ≡ b) × (r < 256) ⌝ }
+// Where a number lies on a page, and how many bytes it takes.
+pub struct Place {
+    pub at: usize,
+    pub width: usize,
+}
+
+// A number put at a place of what starts at `from`.
+pub fn put_at(page: &mut [u8], from: usize, p: Place, v: u64)
+    requires { ⌜ from + p .at + p .width ≤ length (now page) ⌝ }
+    ensures { λ _. ⌜ now (page .exit) ≡ sets (now (page .entry)) (from + p .at) (bytesOf (p .width) v) ⌝ }
 {
-    b as u64
+    put(page, from + p.at, p.width, v);
 }
 
 // The number in the `width` bytes from place `at`.
@@ -41,7 +54,7 @@ pub fn get(buf: &[u8], at: usize, width: usize) -> u64
     let mut left = width;
     while 0 < left {
         left -= 1;
-        x = x * 256 + wide(buf[at + left]);
+        x = x * 256 + from_byte(buf[at + left]);
     }
     x
 }
@@ -69,6 +82,18 @@ pub fn copy_part(page: &[u8], from: usize, n: usize, answer: &mut [u8])
     }
 }
 
+// The first n bytes zero: a page with no field on it.
+pub fn clear(buf: &mut [u8], n: usize)
+    requires { ⌜ n ≤ length (now buf) ⌝ }
+    ensures { λ _. ⌜ now (buf .exit) ≡ sets (now (buf .entry)) 0 (place n []) ⌝ }
+{
+    let mut i = 0;
+    while i < n {
+        buf[i] = 0;
+        i += 1;
+    }
+}
+
 // A run of words, copied to place `at`.
 pub fn copy_words(to: &mut [u64], at: usize, src: &[u64])
     requires { ⌜ at + length (now src) ≤ length (now to) ⌝ }
@@ -88,9 +113,9 @@ fn put_row(page: &mut [u8], row: [u64; 3])
 {
     let at = row[0] as usize;
     let width = row[1] as usize;
-    // With a constant width the compiler stores the eight bytes at once.
-    if width == 8 {
-        put(page, at, 8, row[2]);
+    // With a constant width the compiler stores a word's bytes at once.
+    if width == WORD {
+        put(page, at, WORD, row[2]);
     } else {
         put(page, at, width, row[2]);
     }

@@ -4,21 +4,24 @@ ghost use Prim.Native.Nat.{_+_, _*_, _≤_};
 ghost use lib.ListN.{length};
 ghost use Rattle.octets.specs.Octets.{numberOf, part};
 ghost use Rattle.octets.specs.Words.{wordSize, wordsFrom, putWords};
-use crate::wide;
+use crate::casts::from_byte;
+
+// How many bytes a word has.
+pub const WORD: usize = 8;
 
 // The word at a place, as one sum of its bytes: the compiler reads it with one load.
 pub fn word_at(bytes: &[u8], at: usize) -> u64
     requires { ⌜ at + wordSize ≤ length (now bytes) ⌝ }
     ensures { λ r. ⌜ r ≡ numberOf (part (now (bytes .entry)) at wordSize) ⌝ }
 {
-    wide(bytes[at])
-        + wide(bytes[at + 1]) * 0x100
-        + wide(bytes[at + 2]) * 0x10000
-        + wide(bytes[at + 3]) * 0x1000000
-        + wide(bytes[at + 4]) * 0x100000000
-        + wide(bytes[at + 5]) * 0x10000000000
-        + wide(bytes[at + 6]) * 0x1000000000000
-        + wide(bytes[at + 7]) * 0x100000000000000
+    from_byte(bytes[at])
+        + from_byte(bytes[at + 1]) * 0x100
+        + from_byte(bytes[at + 2]) * 0x10000
+        + from_byte(bytes[at + 3]) * 0x1000000
+        + from_byte(bytes[at + 4]) * 0x100000000
+        + from_byte(bytes[at + 5]) * 0x10000000000
+        + from_byte(bytes[at + 6]) * 0x1000000000000
+        + from_byte(bytes[at + 7]) * 0x100000000000000
 }
 
 // The words from a place on, as many as are lent.
@@ -30,7 +33,7 @@ pub fn words_in(bytes: &[u8], from: usize, words: &mut [u64])
     let mut i = 0;
     while i < words.len() {
         words[i] = word_at(bytes, at);
-        at += 8;
+        at += WORD;
         i += 1;
     }
 }
@@ -43,8 +46,8 @@ pub fn words_out(words: &[u64], bytes: &mut [u8], from: usize)
     let mut at = from;
     let mut i = 0;
     while i < words.len() {
-        crate::put(bytes, at, 8, words[i]);
-        at += 8;
+        crate::put(bytes, at, WORD, words[i]);
+        at += WORD;
         i += 1;
     }
 }

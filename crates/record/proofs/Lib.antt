@@ -1,3 +1,3 @@
 pub mod Differences
-pub mod Marks
-pub mod Bits
+pub mod Settling
+pub mod EventBits

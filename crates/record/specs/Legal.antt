@@ -10,13 +10,9 @@ use Rattle.record.specs.declared.State.{State}
 use Rattle.record.specs.declared.Notes.{Notes}
 use Rattle.record.specs.declared.Record.{Record}
 use Rattle.record.specs.declared.Effect.{Effect}
-use Rattle.record.specs.Record.{need}
-use Rattle.record.specs.Window.{byWindow}
-use Rattle.record.specs.Events.{someEvent, settled}
-
--- "Up to 31 sets."
-abbrev pub maxSets : ℕ
-maxSets = 31
+use Rattle.record.specs.Quantities.{need}
+use Rattle.record.specs.Windows.{byWindow}
+use Rattle.record.specs.Event.{someEvent, settled}
 
 -- "identifier 1..65535; endurance group 1..65535"
 abbrev pub numberMaximum : ℕ

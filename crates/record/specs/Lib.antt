@@ -1,4 +1,5 @@
 pub mod Record
-pub mod Window
-pub mod Events
+pub mod Quantities
+pub mod Windows
+pub mod Event
 pub mod Legal

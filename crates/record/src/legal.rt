@@ -7,10 +7,8 @@ use crate::Notes;
 use crate::Record;
 use crate::State;
 use crate::Window;
-use crate::notices::some_event;
+use crate::event::some_event;
 use crate::quantities::need_of;
-
-pub const MAX_SETS: usize = 31;
 
 pub const NUMBER_MAXIMUM: u64 = 65535;
 

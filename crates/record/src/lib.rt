@@ -1,7 +1,7 @@
 // One NVM Set's record, by value: its parts, legality, estimates and events.
-// What an item does to a set is an effect; `notices::settle` alone writes events and the listed mark.
+// What an item does to a set is an effect; `event::settle` alone writes events and the listed mark.
+pub mod event;
 pub mod legal;
-pub mod notices;
 pub mod quantities;
 pub mod windows;
 

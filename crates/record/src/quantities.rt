@@ -2,7 +2,7 @@
 ghost use mathlib.Core.Path.{_≡_};
 ghost use Prim.Native.Nat.{_+_, _-_, min};
 ghost use lib.Dec.{ltb, leb};
-ghost use Rattle.record.specs.Record.{limit, spent, threshold, enables, spending, need};
+ghost use Rattle.record.specs.Quantities.{limit, spent, threshold, enables, spending, need};
 use crate::Attributes;
 use crate::Config;
 use crate::Events;

@@ -1,7 +1,7 @@
 // A window's number, and whether two are the same.
 ghost use mathlib.Core.Path.{_≡_};
 ghost use Prim.Native.Nat.{_<_};
-ghost use Rattle.record.specs.Window.{windowNo, sameWindow};
+ghost use Rattle.record.specs.Windows.{windowNo, sameWindow};
 use crate::Window;
 
 pub fn window_no(w: Window) -> usize

@@ -6,7 +6,7 @@ use native.Mathlib.Omega.{arith}
 use lib.ListN.{length, getD, take, drop, drop-of-length-le}
 use Rattle.octets.specs.Octets.{numberOf, part, AllBytes}
 use Rattle.octets.specs.Words.{wordSize, wordsFrom, putWords}
-use Rattle.octets.proofs.Passed.{length-words, own-words}
+use Rattle.octets.proofs.WordBytes.{length-words, own-words}
 use Rattle.octets.proofs.InPlace.{word-of, first-words, later-words, rest-words, put-within, put-part}
 use Rattle.table.specs.Layout.{rowWords}
 use Rattle.table.specs.Table.{rowStart, row, put}

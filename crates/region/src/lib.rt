@@ -5,30 +5,32 @@ ghost use Prim.Native.Nat.{_+_, _*_, _/_, _<_, _≤_};
 ghost use mathlib.Core.List.{map};
 ghost use lib.ListN.{length, getD, replicate};
 ghost use lib.Seq.{sets};
-ghost use Rattle.record.specs.Legal.{maxSets};
 ghost use Rattle.octets.specs.Words.{wordSize};
+ghost use Rattle.record.specs.Record.{idOf};
 ghost use Rattle.table.specs.Card.{headerWords};
-ghost use Rattle.table.specs.Table.{count, rowStart, row, rows, sized, legalRows, legalTable, Legal, idOf, recordsOf, findIn, enterIn, listedWord};
+ghost use Rattle.table.specs.Table.{count, rowStart, row, rows, sized, legalRows, legalTable, Legal, recordsOf, findIn, enterIn, listedWord, maxSets};
 ghost use Rattle.region.specs.Region.{tableIn, recordAt, withRecord, LegalAt, Moved, Silent};
+use octets::casts::to_size;
+use octets::words::WORD;
 use octets::words::word_at;
 use octets::words::words_in;
 use octets::words::words_out;
 use record::Record;
 use record::SetId;
 use record::Slot;
-use record::legal::MAX_SETS;
 use table::Entry;
 use table::Found;
-use table::rows::HEADER;
-use table::rows::LAYOUT;
-use table::rows::LISTED;
-use table::rows::NOTES;
-use table::rows::ROW;
-use table::rows::WINDOW;
-use table::rows::follows;
-use table::rows::id_in;
-use table::rows::record_of;
-use table::rows::words_of;
+use table::MAX_SETS;
+use table::layout::HEADER;
+use table::layout::LAYOUT;
+use table::layout::LISTED;
+use table::layout::NOTES;
+use table::layout::ROW;
+use table::layout::WINDOW;
+use table::layout::id_in;
+use table::layout::record_of;
+use table::layout::words_of;
+use table::legal_words::follows;
 
 // The row of a slot.
 fn fetch(bytes: &[u8], slot: usize) -> [u64; ROW]
@@ -36,7 +38,7 @@ fn fetch(bytes: &[u8], slot: usize) -> [u64; ROW]
     ensures { λ r. ⌜ r ≡ row (tableIn (now (bytes .entry))) slot ⌝ }
 {
     let mut a = [0u64; ROW];
-    words_in(bytes, 8 * HEADER + slot * (8 * ROW), &mut a);
+    words_in(bytes, WORD * HEADER + slot * (WORD * ROW), &mut a);
     a
 }
 
@@ -54,7 +56,7 @@ pub fn store(bytes: &mut [u8], slot: Slot, r: Record)
 {
     let a = words_of(r);
     let i = slot.0;
-    words_out(&a, bytes, 8 * HEADER + i * (8 * ROW));
+    words_out(&a, bytes, WORD * HEADER + i * (WORD * ROW));
 }
 
 // The same where the row's attributes and configuration stay: they are not written again.
@@ -67,7 +69,7 @@ pub fn store_moved(bytes: &mut [u8], slot: Slot, r: Record)
     words_out(
         &a[WINDOW..ROW],
         bytes,
-        8 * HEADER + i * (8 * ROW) + 8 * WINDOW,
+        WORD * HEADER + i * (WORD * ROW) + WORD * WINDOW,
     );
 }
 
@@ -81,7 +83,7 @@ pub fn store_silent(bytes: &mut [u8], slot: Slot, r: Record)
     words_out(
         &a[WINDOW..NOTES],
         bytes,
-        8 * HEADER + i * (8 * ROW) + 8 * WINDOW,
+        WORD * HEADER + i * (WORD * ROW) + WORD * WINDOW,
     );
 }
 
@@ -90,13 +92,7 @@ fn word_of(bytes: &[u8], k: usize) -> u64
     requires { ⌜ k < length (now bytes) / wordSize ⌝ }
     ensures { λ r. ⌜ r ≡ getD (tableIn (now (bytes .entry))) k 0 ⌝ }
 {
-    word_at(bytes, 8 * k)
-}
-
-fn size_of(n: u64) -> usize
-    ensures { λ r. ⌜ r ≡ n ⌝ }
-{
-    n as usize
+    word_at(bytes, WORD * k)
 }
 
 // The number of sets.
@@ -104,13 +100,13 @@ pub fn count_of(bytes: &[u8]) -> usize
     requires { ⌜ headerWords ≤ length (now bytes) / wordSize ⌝ }
     ensures { λ r. ⌜ r ≡ count (tableIn (now (bytes .entry))) ⌝ }
 {
-    size_of(word_of(bytes, 1))
+    to_size(word_of(bytes, 1))
 }
 
 fn fits(bytes: &[u8]) -> bool
     ensures { λ r. ⌜ r ≡ sized (tableIn (now (bytes .entry))) ⌝ }
 {
-    let room = bytes.len() / 8;
+    let room = bytes.len() / WORD;
     if room < HEADER {
         return false;
     }

@@ -7,11 +7,12 @@ use crate::output::emit;
 use crate::output::flush;
 use crate::sets;
 use crate::sets::read_sets;
-use card::setting::set_up;
+use card::set_up::set_up;
 use pages::bodies::BODY;
-use record::legal::MAX_SETS;
-use table::rows::HEADER;
-use table::rows::ROW;
+use replies::numbers::SUCCESS;
+use table::MAX_SETS;
+use table::layout::HEADER;
+use table::layout::ROW;
 use tape::Next;
 use tape::items::body_size;
 use tape::items::next_item;
@@ -150,7 +151,7 @@ pub fn replay(fd: i32) {
     let status = set_up(&mut table, &bodies[0..n]);
     let n = sets_line(&mut line, s.count, status);
     let used = emit(&mut out, 0, &line, n);
-    if status == 0 {
+    if status == SUCCESS {
         let r = all_items(
             fd,
             &mut buf,

@@ -1,6 +1,6 @@
 -- What a status and a buffer say together, over plain variables.
 use mathlib.Core.Path.{_≡_, refl, sym, ap, _∙_}
-use mathlib.Core.List.{List}
+use mathlib.Core.List.{List, []}
 use Prim.Native.Nat.{ℕ, zero, suc, _≤_}
 use native.Mathlib.Nat.{sub-zero}
 use native.Mathlib.Omega.{arith}
@@ -10,7 +10,7 @@ use lib.Seq.{sets, length-sets}
 use Rattle.octets.specs.Octets.{padded}
 use Rattle.octets.proofs.Runs.{part-same}
 use Rattle.replies.specs.declared.Reply.{Reply}
-use Rattle.replies.specs.Answers.{Answer, answered, granted, Replied}
+use Rattle.replies.specs.Answers.{Answer, answered, granted, refused, giving, Replied}
 
 pub length-padded : (l : List ℕ) (at n : ℕ) → length (padded l at n) ≡ n
 length-padded l at zero = refl
@@ -25,9 +25,9 @@ refusing s w d before n =
     rw (ne-eqb s 0 n) (record { status = refl; dword = refl; len = refl; within = omega arith; buffer = refl; part = refl })
 
 -- a success writes the data at the buffer's start
-granting :
+pub granting :
     (n w : ℕ) (d before after : List ℕ) → n ≡ length d → n ≤ length before → after ≡ sets before 0 d
-    → Replied (granted w d) before (replyOf 0 w n) after
+    → Replied (granted w d) before (giving w n) after
 granting n w d before after l f b =
     record {
       status = refl;
@@ -40,7 +40,7 @@ granting n w d before after l f b =
 
 pub handing :
     (s n w : ℕ) (d before after : List ℕ) → s ≡ 0 → n ≡ length d → n ≤ length before → after ≡ sets before 0 d
-    → Replied (answered s w d) before (replyOf 0 w n) after
+    → Replied (answered s w d) before (giving w n) after
 handing s n w d before after e l f b = rw (eq-eqb s 0 e) (granting n w d before after l f b)
 
 -- an answer allows one reply and one buffer
@@ -50,3 +50,11 @@ one-outcome a before x y r q h k =
     let e : replyOf (r .status) (r .dword) (r .len) ≡ replyOf (q .status) (q .dword) (q .len)
     = rw (h .status, h .dword, h .len, k .status, k .dword, k .len) in
     (e, h .buffer ∙ sym (k .buffer))
+
+-- the reply to a refusal, by itself
+pub refused-reply : (s : ℕ) (before : List ℕ) → Replied (refused s) before (replyOf s 0 0) before
+refused-reply s before = record { status = refl; dword = refl; len = refl; within = omega arith; buffer = refl; part = refl }
+
+-- and to a success without data
+pub no-data : (w : ℕ) (before : List ℕ) → Replied (granted w []) before (giving w 0) before
+no-data w before = record { status = refl; dword = refl; len = refl; within = omega arith; buffer = refl; part = refl }

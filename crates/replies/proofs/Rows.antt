@@ -1,4 +1,4 @@
--- What a status of 0 tells: no row of the table holds.
+-- What a status of 0 tells: no row of the table holds; and a table above another, or with another last row.
 use mathlib.Core.Path.{_≡_, refl}
 use mathlib.Core.Bool.{Bool, true, false}
 use mathlib.Core.List.{List, [], _∷_, _++_}
@@ -7,8 +7,9 @@ use native.Mathlib.Omega.{arith}
 use borrow.Author.Tests.{ltb-true, ne-eqb}
 use lib.Dec.{ltb, eqb}
 use Rattle.octets.specs.Choice.{if_then_else_}
-use Rattle.octets.proofs.Tests.{both}
-use Rattle.replies.specs.Status.{Line, firstOf, numbered, NoneHolds}
+use Rattle.octets.proofs.JoinedTests.{both}
+use Rattle.octets.proofs.Lists.{if-same}
+use Rattle.replies.specs.Status.{Line, line, firstOf, numbered, NoneHolds}
 
 one-passed : (b : Bool) (n more : ℕ) → 0 < n → (if b then n else more) ≡ 0 → (b ≡ false) × (more ≡ 0)
 one-passed true n more p h = absurd (omega arith)
@@ -38,3 +39,15 @@ first-append [] ys k = refl
 first-append (l ∷ ls) ys k =
     let b = both (ltb 0 (l .number)) _ k in
     by-row (l .holds) (l .number) (firstOf ls) (firstOf (ls ++ ys)) (firstOf ys) (ltb-true 0 (l .number) (b .0)) (first-append ls ys (b .1))
+
+-- ---- a last row that holds less often refuses no more
+
+if-zero : (t : Bool) (m x y : ℕ) → (x ≡ 0 → y ≡ 0) → (if t then m else x) ≡ 0 → (if t then m else y) ≡ 0
+if-zero true m x y h e = e
+if-zero false m x y h e = h e
+
+pub last-row :
+    (ls : List Line) (b d : Bool) (m : ℕ) → (b ≡ false → d ≡ false) → firstOf (ls ++ line b m ∷ []) ≡ 0 → firstOf (ls ++ line d m ∷ []) ≡ 0
+last-row [] true d m h e = rw e (if-same d 0)
+last-row [] false d m h e = rw (h refl)
+last-row (l ∷ ls) b d m h e = if-zero (l .holds) (l .number) _ _ (last-row ls b d m h) e

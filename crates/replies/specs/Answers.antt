@@ -30,9 +30,13 @@ answered status dword bytes = if eqb status 0 then granted dword bytes else refu
 abbrev pub refusing : ℕ → Reply
 refusing status = record { status = status; dword = 0; len = 0 }
 
--- and to what is carried out and has nothing to say
+-- and to what is carried out, with dword 0 and so many bytes of data
+abbrev pub giving : ℕ → ℕ → Reply
+giving dword len = record { status = 0; dword = dword; len = len }
+
+-- with nothing to say
 abbrev pub done : Reply
-done = record { status = 0; dword = 0; len = 0 }
+done = giving 0 0
 
 -- the part `buffer[from..to]` of a buffer
 abbrev pub cut : List ℕ → ℕ → ℕ → List ℕ

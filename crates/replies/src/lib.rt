@@ -1,10 +1,13 @@
 // What a command answers: the first row of a status table that holds refuses it; else data goes out, in one way.
+pub mod numbers;
+
 ghost use mathlib.Core.Path.{_≡_};
 ghost use Prim.Native.Nat.{_≤_};
 ghost use lib.ListN.{length};
 ghost use Rattle.octets.specs.Octets.{padded};
 ghost use Rattle.replies.specs.Status.{firstOf, linesOf};
-ghost use Rattle.replies.specs.Answers.{answered, Replied};
+ghost use Rattle.replies.specs.Answers.{answered, refusing, giving, done, Replied};
+use crate::numbers::SUCCESS;
 
 pub struct Reply {
     pub status: u16,
@@ -24,7 +27,35 @@ pub fn first(tests: &[bool], numbers: &[u16]) -> u16
         }
         i += 1;
     }
-    0
+    SUCCESS
+}
+
+pub fn refuse(status: u16) -> Reply
+    ensures { λ r. ⌜ r ≡ refusing status ⌝ }
+{
+    Reply {
+        status,
+        dword: 0,
+        len: 0,
+    }
+}
+
+// Carried out, with dword 0 and so many bytes of data.
+pub fn give(dword: u32, len: usize) -> Reply
+    ensures { λ r. ⌜ r ≡ giving dword len ⌝ }
+{
+    Reply {
+        status: SUCCESS,
+        dword,
+        len,
+    }
+}
+
+// Carried out, with nothing to say.
+pub fn done() -> Reply
+    ensures { λ r. ⌜ r ≡ done ⌝ }
+{
+    give(0, 0)
 }
 
 // A refusal, which writes nothing, or n bytes of a page from place `from`: the one way in which data goes out.
@@ -39,7 +70,7 @@ pub fn hand_out(
     requires { ⌜ (status ≡ 0 → (from ≤ length (now page)) × (n ≤ length (now answer))) ⌝ }
     ensures { λ r. ⌜ Replied (answered status dword (padded (now (page .entry)) from n)) (now (answer .entry)) r (now (answer .exit)) ⌝ }
 {
-    if status != 0 {
+    if status != SUCCESS {
         return Reply {
             status,
             dword: 0,
@@ -48,7 +79,7 @@ pub fn hand_out(
     }
     octets::copy_part(page, from, n, answer);
     Reply {
-        status: 0,
+        status: SUCCESS,
         dword,
         len: n,
     }

@@ -11,19 +11,20 @@ use lib.Dec.{leb, ltb, eqb}
 use lib.ListN.{length, getD, drop-of-length-le}
 use lib.Seq.{drop-cons}
 use Rattle.octets.specs.Choice.{if_then_else_}
-use Rattle.octets.proofs.Tests.{and-left, and-right, both, together}
+use Rattle.octets.proofs.JoinedTests.{and-left, and-right, both, together}
 use Rattle.record.specs.declared.Window.{Window}
 use Rattle.record.specs.declared.Window.the-variants.{Off, D, N}
 use Rattle.record.specs.declared.Events.{Events}
 use Rattle.record.specs.declared.Record.{Record}
-use Rattle.record.specs.Window.{byWindow, windowNo}
-use Rattle.record.specs.Events.{bit, bitsOf, eventsOf, eventsIn, someEvent}
+use Rattle.record.specs.Windows.{byWindow, windowNo}
+use Rattle.record.specs.Event.{bit, bitsOf, eventsOf, eventsIn, someEvent}
 use Rattle.record.specs.Legal.{legalRecord}
-use Rattle.record.proofs.Bits.{events-back}
+use Rattle.record.specs.Record.{idOf}
+use Rattle.record.proofs.EventBits.{events-back}
 use Rattle.table.specs.Layout.{rowWords, wordsOf, windowIn, recordOf}
-use Rattle.table.specs.Table.{idOf, sameWords, legalRow, legalAfter}
+use Rattle.table.specs.Table.{sameWords, legalRow, legalAfter}
 use Rattle.table.specs.LegalWords.{word, staticsLegal, withinBits, zeroOutside, changingLegal, notesLegal, wordsLegal, LegalWords}
-use Rattle.table.proofs.Words.{same-self}
+use Rattle.table.proofs.SameWords.{same-self}
 use Rattle.table.proofs.Records.{row-of}
 
 -- ---- the words of a record are legal exactly where the record is

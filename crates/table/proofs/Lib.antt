@@ -1,9 +1,9 @@
-pub mod Words
+pub mod SameWords
 pub mod Records
 pub mod Slots
-pub mod Known
+pub mod LegalTables
 pub mod Turns
 pub mod Written
-pub mod Past
+pub mod PastTheTable
 pub mod LegalWords
 pub mod Staying

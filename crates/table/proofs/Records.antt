@@ -8,18 +8,18 @@ use native.Mathlib.Nat.{mod-eq-of-lt}
 use borrow.Author.Tests.{leb-true}
 use lib.Dec.{eqb}
 use lib.ListN.{length}
-use Rattle.octets.proofs.Tests.{and-left, and-right, both, together}
+use Rattle.octets.proofs.JoinedTests.{and-left, and-right, both, together}
 use Rattle.record.specs.declared.Window.{Window}
 use Rattle.record.specs.declared.Window.the-variants.{Off, D, N}
 use Rattle.record.specs.declared.Attributes.{Attributes}
 use Rattle.record.specs.declared.Record.{Record}
-use Rattle.record.specs.Window.{windowNo}
-use Rattle.record.specs.Events.{bit}
+use Rattle.record.specs.Windows.{windowNo}
+use Rattle.record.specs.Event.{bit}
 use Rattle.record.specs.Legal.{legalAttributes, legalRecord}
-use Rattle.record.proofs.Bits.{events-back}
+use Rattle.record.proofs.EventBits.{events-back}
 use Rattle.table.specs.Layout.{rowWords, wordsOf, windowIn, recordOf}
 use Rattle.table.specs.Table.{sameWords, legalRow}
-use Rattle.table.proofs.Words.{same-equal, same-self}
+use Rattle.table.proofs.SameWords.{same-equal, same-self}
 
 pub length-words : (r : Record) → length (wordsOf r) ≡ rowWords
 unfolding wordsOf

@@ -11,13 +11,14 @@ use lib.ListN.{getD, set, drop}
 use lib.Seq.{sets, getD-take, getD-drop}
 use borrow.Author.Tests.{eq-eqb, ne-eqb}
 use Rattle.record.specs.declared.Record.{Record}
-use Rattle.record.specs.Events.{bit}
+use Rattle.record.specs.Event.{bit}
+use Rattle.record.specs.Record.{idOf}
 use Rattle.table.specs.declared.Found.{Found}
 use Rattle.table.specs.declared.Found.the-variants.{At, Nothing}
 use Rattle.table.specs.Layout.{rowWords, wordsOf, recordOf}
-use Rattle.table.specs.Table.{count, rowStart, row, rowsFrom, recordsOf, idOf, legalAfter, legalRows, Legal, findFrom, findIn, listedWord}
+use Rattle.table.specs.Table.{count, rowStart, row, rowsFrom, recordsOf, legalAfter, legalRows, Legal, findFrom, findIn, listedWord}
 use Rattle.table.proofs.Records.{Row}
-use Rattle.table.proofs.Known.{slot-known}
+use Rattle.table.proofs.LegalTables.{slot-known}
 
 module _ (ws : List ℕ) (n i : ℕ) where
   pub rows-none : n ≤ i → rowsFrom ws i (n - i) ≡ []

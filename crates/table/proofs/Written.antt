@@ -10,16 +10,17 @@ use borrow.Author.Tests.{le-leb}
 use lib.Dec.{ltb, leb}
 use lib.ListN.{length, set, getD, drop, length-set}
 use lib.Seq.{sets, length-sets, set-getD, getD-set-same, getD-set-other}
-use Rattle.octets.proofs.Tests.{both, together}
+use Rattle.octets.proofs.JoinedTests.{both, together}
 use Rattle.octets.proofs.Runs.{drop-sets}
 use Rattle.record.specs.declared.Record.{Record}
-use Rattle.record.specs.Legal.{maxSets, inRange, legalRecord}
+use Rattle.record.specs.Legal.{inRange, legalRecord}
+use Rattle.record.specs.Record.{idOf}
 use Rattle.table.specs.Layout.{wordsOf, recordOf}
 use Rattle.table.specs.Card.{Card, layoutNumber, headerWords, header}
-use Rattle.table.specs.Table.{layout, count, rowStart, row, put, rowsFrom, rows, recordsOf, cardOf, idOf, legalSets, sized, legalTable, Legal, writtenFrom, writtenRows, written}
+use Rattle.table.specs.Table.{layout, count, rowStart, row, put, rowsFrom, rows, recordsOf, cardOf, legalSets, sized, legalTable, Legal, writtenFrom, writtenRows, written, maxSets}
 use Rattle.table.proofs.Records.{Row, length-words, record-back}
 use Rattle.table.proofs.Slots.{put-self, length-put, header-put, rest-put, row-same, row-other, rows-other}
-use Rattle.table.proofs.Known.{slot-known, length-records, rows-of-sets}
+use Rattle.table.proofs.LegalTables.{slot-known, length-records, rows-of-sets}
 use Rattle.table.proofs.Turns.{later, later-none, later-more, later-all}
 
 -- ---- records written where they came from, and one of them changed
@@ -28,7 +29,7 @@ use Rattle.table.proofs.Turns.{later, later-none, later-more, later-all
 abbrev Own : List ℕ → ℕ → ℕ → Type 0
 Own ws j m = (i : ℕ) → j ≤ i → i < j + m → Row (row ws i)
 
-put-own : (ws : List ℕ) (j : ℕ) → rowStart (suc j) ≤ length ws → Row (row ws j) → put ws j (wordsOf (recordOf (row ws j))) ≡ ws
+pub put-own : (ws : List ℕ) (j : ℕ) → rowStart (suc j) ≤ length ws → Row (row ws j) → put ws j (wordsOf (recordOf (row ws j))) ≡ ws
 put-own ws j h r = rw (← r .words) (put-self ws j h)
 
 own-written : (ws : List ℕ) (j m : ℕ) → rowStart (j + m) ≤ length ws → Own ws j m → writtenFrom ws j (map recordOf (rowsFrom ws j m)) ≡ ws

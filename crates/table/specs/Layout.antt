@@ -11,8 +11,8 @@ use Rattle.record.specs.declared.State.{State}
 use Rattle.record.specs.declared.Notes.{Notes}
 use Rattle.record.specs.declared.Record.{Record}
 use Rattle.record.specs.Record.{stateOf}
-use Rattle.record.specs.Window.{windowNo}
-use Rattle.record.specs.Events.{bit, bitsOf, eventsIn}
+use Rattle.record.specs.Windows.{windowNo}
+use Rattle.record.specs.Event.{bit, bitsOf, eventsIn}
 
 -- how many words a set takes
 abbrev pub rowWords : ℕ

@@ -6,7 +6,7 @@ use Prim.Native.Nat.{ℕ}
 use lib.Dec.{leb, ltb, eqb}
 use lib.ListN.{length, getD}
 use Rattle.octets.specs.Choice.{if_then_else_}
-use Rattle.record.specs.Events.{bitsOf, eventsIn}
+use Rattle.record.specs.Event.{bitsOf, eventsIn}
 use Rattle.record.specs.Legal.{numberMaximum, fourBytesMaximum, typicalMaximum, dayMs, inRange}
 use Rattle.table.specs.Layout.{rowWords}
 use Rattle.table.specs.Table.{legalRow}

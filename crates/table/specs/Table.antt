@@ -9,14 +9,19 @@ use lib.Seq.{sets}
 use Rattle.octets.specs.Choice.{if_then_else_}
 use Rattle.octets.specs.Octets.{part}
 use Rattle.record.specs.declared.Record.{Record}
-use Rattle.record.specs.Events.{wordOf}
-use Rattle.record.specs.Legal.{maxSets, inRange, legalRecord}
+use Rattle.record.specs.Record.{idOf}
+use Rattle.record.specs.Event.{bit}
+use Rattle.record.specs.Legal.{inRange, legalRecord}
 use Rattle.table.specs.declared.Found.{Found}
 use Rattle.table.specs.declared.Found.the-variants.{At, Nothing}
 use Rattle.table.specs.declared.Entry.{Entry}
 use Rattle.table.specs.declared.Entry.the-variants.{Bad, Unknown, Here}
 use Rattle.table.specs.Layout.{rowWords, wordsOf, recordOf}
 use Rattle.table.specs.Card.{Card, layoutNumber, headerWords, header}
+
+-- "Up to 31 sets."
+abbrev pub maxSets : ℕ
+maxSets = 31
 
 -- what the header says: the number of the layout, and that of the sets
 abbrev pub layout : List ℕ → ℕ
@@ -51,9 +56,6 @@ recordsOf ws = map recordOf (rows ws)
 -- the card that a table holds
 abbrev pub cardOf : List ℕ → Card
 cardOf ws = record { sets = recordsOf ws }
-
-abbrev pub idOf : Record → ℕ
-idOf r = r .attributes .id .0
 
 -- ---- legality
 
@@ -135,7 +137,12 @@ writtenRows ws rs = writtenFrom ws 0 rs
 unfoldable pub written : List ℕ → Card → List ℕ
 written ws c = writtenRows (sets ws 0 (header c)) (c .sets)
 
--- the listed marks of all sets, as one word of bits
+-- "The listed marks of all sets are gathered as one word of bits": the first set's is the lowest
+abbrev pub wordOf : List Bool → ℕ
+wordOf [] = 0
+wordOf (m ∷ ms) = wordOf ms * 2 + bit m
+
+-- so the marks of records
 abbrev pub listedMarks : List Record → List Bool
 listedMarks rs = map (λ r. r .notes .listed) rs
 

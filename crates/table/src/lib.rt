@@ -1,6 +1,7 @@
 // The card's table in a lent slice of words: legality, the search for a set, one slot loaded and stored, and the listed
 // marks as one word. Words past the table are neither read nor written.
-pub mod rows;
+pub mod layout;
+pub mod legal_words;
 
 ghost use mathlib.Core.Path.{_≡_};
 ghost use mathlib.Core.List.{map};
@@ -8,21 +9,23 @@ ghost use Prim.Native.Nat.{_+_, _*_, _<_, _≤_};
 ghost use lib.ListN.{length, replicate};
 ghost use lib.Seq.{sets};
 ghost use Rattle.table.specs.Layout.{wordsOf, recordOf};
-ghost use Rattle.record.specs.Legal.{maxSets};
+ghost use Rattle.record.specs.Record.{idOf};
 ghost use Rattle.table.specs.Card.{headerWords};
-ghost use Rattle.table.specs.Table.{count, rowStart, row, rows, put, extentOf, sized, legalRows, legalTable, Legal, idOf, recordsOf, findIn, enterIn, listedWord};
-use crate::rows::HEADER;
-use crate::rows::LAYOUT;
-use crate::rows::LISTED;
-use crate::rows::ROW;
-use crate::rows::follows;
-use crate::rows::id_in;
-use crate::rows::record_of;
-use crate::rows::words_of;
+ghost use Rattle.table.specs.Table.{count, rowStart, row, rows, put, extentOf, sized, legalRows, legalTable, Legal, recordsOf, findIn, enterIn, listedWord, maxSets};
+use crate::layout::HEADER;
+use crate::layout::LAYOUT;
+use crate::layout::LISTED;
+use crate::layout::ROW;
+use crate::layout::id_in;
+use crate::layout::record_of;
+use crate::layout::words_of;
+use crate::legal_words::follows;
+use octets::casts::to_size;
 use record::Record;
 use record::SetId;
 use record::Slot;
-use record::legal::MAX_SETS;
+
+pub const MAX_SETS: usize = 31;
 
 pub enum Found {
     At(Slot),
@@ -65,18 +68,12 @@ pub fn store(table: &mut [u64], slot: Slot, r: Record)
     octets::copy_words(table, HEADER + i * ROW, &a);
 }
 
-fn wide(x: u64) -> usize
-    ensures { λ r. ⌜ r ≡ x ⌝ }
-{
-    x as usize
-}
-
 // The number of sets.
 pub fn count_of(table: &[u64]) -> usize
     requires { ⌜ headerWords ≤ length (now table) ⌝ }
     ensures { λ r. ⌜ r ≡ count (now (table .entry)) ⌝ }
 {
-    wide(table[1])
+    to_size(table[1])
 }
 
 // How many words the table of n sets takes, or 0 where so much room has none of that number.
@@ -98,7 +95,7 @@ fn fits(table: &[u64]) -> bool
         return false;
     }
     let known = table[0] == LAYOUT;
-    known & (0 < extent(wide(table[1]), table.len()))
+    known & (0 < extent(to_size(table[1]), table.len()))
 }
 
 fn rows_legal(table: &[u64], n: usize) -> bool
@@ -123,7 +120,7 @@ pub fn legal(table: &[u64]) -> bool
     ensures { λ r. ⌜ r ≡ legalTable (now (table .entry)) ⌝ }
 {
     if fits(table) {
-        rows_legal(table, wide(table[1]))
+        rows_legal(table, to_size(table[1]))
     } else {
         false
     }
@@ -133,7 +130,7 @@ pub fn find(table: &[u64], id: SetId) -> Found
     requires { ⌜ Legal (now table) ⌝ }
     ensures { λ r. ⌜ r ≡ findIn (now (table .entry)) (id .0) ⌝ }
 {
-    let n = wide(table[1]);
+    let n = to_size(table[1]);
     let want = id.0 as u64;
     let mut i = 0;
     while i < n {
@@ -165,7 +162,7 @@ pub fn listed_word(table: &[u64]) -> u64
     ensures { λ r. ⌜ r ≡ listedWord (recordsOf (now (table .entry))) ⌝ }
 {
     let mut word: u64 = 0;
-    let mut i = wide(table[1]);
+    let mut i = to_size(table[1]);
     while 0 < i {
         i -= 1;
         word = word * 2 + table[HEADER + i * ROW + LISTED];
@@ -178,7 +175,7 @@ pub fn identifiers(table: &[u64]) -> [u64; MAX_SETS]
     requires { ⌜ Legal (now table) ⌝ }
     ensures { λ r. ⌜ r ≡ sets (replicate maxSets 0) 0 (map idOf (recordsOf (now (table .entry)))) ⌝ }
 {
-    let n = wide(table[1]);
+    let n = to_size(table[1]);
     let mut ids = [0u64; MAX_SETS];
     let mut i = 0;
     while i < n {

@@ -10,8 +10,8 @@ use lib.Dec.{ltb, leb, eqb, lit<, lit≤}
 use lib.ListN.{length, getD, take, drop, length-drop, List·getD-eq-default}
 use lib.Seq.{sets, take-length}
 use Rattle.octets.specs.Choice.{if_then_else_}
-use Rattle.octets.proofs.Tests.{both}
-use Rattle.pages.specs.Numbers.{numberAt}
+use Rattle.octets.specs.Numbers.{numberAt}
+use Rattle.octets.proofs.JoinedTests.{both}
 use Rattle.replies.specs.declared.Reply.{Reply}
 use Rattle.replies.specs.Answers.{Answer, cut, Replied}
 use Rattle.commands.specs.Commands.{commandSize}

@@ -8,7 +8,7 @@ use lib.Dec.{eqb, ltb, leb}
 use lib.ListN.{length, getD, take, drop}
 use lib.Seq.{sets}
 use Rattle.octets.specs.Choice.{if_then_else_}
-use Rattle.pages.specs.Numbers.{numberAt}
+use Rattle.octets.specs.Numbers.{numberAt}
 use Rattle.pages.specs.Features.{featureSize}
 use Rattle.pages.specs.Bodies.{bodySize as setBodySize}
 use Rattle.commands.specs.Commands.{commandSize}

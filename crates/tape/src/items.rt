@@ -6,21 +6,20 @@ ghost use mathlib.Core.Option.{some};
 ghost use Prim.Native.Nat.{_<_, _≤_};
 ghost use lib.Dec.{ltb, eqb};
 ghost use lib.ListN.{length, drop};
-ghost use Rattle.pages.specs.Numbers.{numberAt};
-ghost use Rattle.steps.specs.Items.{Item};
-ghost use Rattle.steps.specs.Media.{itemOf};
+ghost use Rattle.octets.specs.Numbers.{numberAt};
+ghost use Rattle.steps.specs.Items.{Item, itemOf};
 ghost use Rattle.tape.specs.Tape.{bodySize, answerSize, mediaItem, itemBy, itemIn, Played, nextBody, nextSet, nextItem};
 use crate::Next;
 use crate::lines::LINE;
 use crate::lines::item_line;
-use card::answering::command_part;
+use card::commanded::command_part;
 use card::media::event;
 use card::media::ticks;
+use octets::numbers::short;
+use octets::numbers::word;
 use pages::bodies::BODY;
-use pages::read::short;
-use pages::read::word;
 use record::SetId;
-use steps::Media;
+use rules::Media;
 
 const KINDS: usize = 7;
 

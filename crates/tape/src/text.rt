@@ -4,6 +4,7 @@ ghost use Prim.Native.Nat.{_+_, _*_, _<_, _≤_};
 ghost use lib.ListN.{length};
 ghost use lib.Seq.{sets};
 ghost use Rattle.tape.specs.Text.{digitOf, digitsOf, places, decimalOf, hexOf, dataHex, dataText, Put};
+use octets::casts::from_byte;
 
 fn digit(d: u64) -> u8
     requires { ⌜ d < 16 ⌝ }
@@ -69,12 +70,6 @@ pub(crate) fn put_text(out: &mut [u8], at: usize, text: &[u8]) -> usize
     at + i
 }
 
-fn wide(b: u8) -> u64
-    ensures { λ r. ⌜ r ≡ b ⌝ }
-{
-    b as u64
-}
-
 // Two digits a byte.
 fn put_bytes(out: &mut [u8], at: usize, bytes: &[u8])
     requires { ⌜ at + 2 * length (now bytes) ≤ length (now out) ⌝ }
@@ -83,7 +78,7 @@ fn put_bytes(out: &mut [u8], at: usize, bytes: &[u8])
     let mut to = at;
     let mut i = 0;
     while i < bytes.len() {
-        put_digits(out, to, 16, 2, wide(bytes[i]));
+        put_digits(out, to, 16, 2, from_byte(bytes[i]));
         to += 2;
         i += 1;
     }

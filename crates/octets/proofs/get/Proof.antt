@@ -28,15 +28,15 @@ get-spec =
     (λ c. search needs)
     (λ c. search needs)
     (λ c κs. search needs)
-    (λ c. let l = c .before .before .before .loop in record { fits = in-word _ _ (more _ (l .x) (c .wide .result) (l .inv .2) (c .wide .ensures .1)) (search needs) })
+    (λ c. let l = c .before .before .before .loop in record { fits = in-word _ _ (more _ (l .x) (c .from-byte .result) (l .inv .2) (c .from-byte .ensures .1)) (search needs) })
     (λ c. search needs)
     (λ c.
     let l = c .before .before .before .loop in
     let s = c .before .before .before .before .before in
     let e : s .args .width - (l .left - 1) ≡ suc (s .args .width - l .left) = omega arith in (
       search needs,
-      rw (l .inv .1, c .wide .ensures .0) (get-turn (s .args .buf .now) (s .args .at) (l .left) (s .args .width) (search needs) (search needs) (search needs)),
-      rw e (more _ (l .x) (c .wide .result) (l .inv .2) (c .wide .ensures .1)),
+      rw (l .inv .1, c .from-byte .ensures .0) (get-turn (s .args .buf .now) (s .args .at) (l .left) (s .args .width) (search needs) (search needs) (search needs)),
+      rw e (more _ (l .x) (c .from-byte .result) (l .inv .2) (c .from-byte .ensures .1)),
     ))
     (λ c.
     let l = c .before .loop in

@@ -9,4 +9,4 @@ count-of-spec =
     (tie.spec
     (λ c κs. search needs)
     (λ c κs. search needs)
-    (λ c. c .size-of .ensures ∙ c .before .word-of .ensures))
+    (λ c. c .to-size .ensures ∙ c .before .word-of .ensures))

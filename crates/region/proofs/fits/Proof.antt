@@ -5,7 +5,7 @@ use borrow.Author.Needs.{needs}
 use lib.ListN.{length}
 use Rattle.octets.specs.Words.{wordSize}
 use Rattle.table.specs.Table.{count}
-use Rattle.table.proofs.Known.{sized-short, some-extent}
+use Rattle.table.proofs.LegalTables.{sized-short, some-extent}
 use Rattle.region.specs.Region.{tableIn}
 use Rattle.region.proofs.Words.{length-in}
 use Rattle.region.proofs.fits.Statement.{statement}

@@ -5,8 +5,8 @@ use native.Mathlib.Omega.{arith}
 use borrow.Author.Needs.{needs}
 use lib.ListN.{replicate}
 use lib.Seq.{sets}
-use Rattle.record.specs.Legal.{maxSets}
-use Rattle.table.specs.Table.{count, idOf, recordsOf}
+use Rattle.record.specs.Record.{idOf}
+use Rattle.table.specs.Table.{count, recordsOf, maxSets}
 use Rattle.table.proofs.Turns.{later, later-none, later-all, ids-more}
 use Rattle.region.specs.Region.{tableIn}
 use Rattle.region.proofs.Words.{length-in}

@@ -2,7 +2,7 @@ use mathlib.Core.Path.{sym, _∙_}
 use native.Mathlib.Omega.{arith}
 use borrow.Author.Needs.{needs}
 use Rattle.table.specs.Table.{legalTable}
-use Rattle.table.proofs.Known.{sized-known}
+use Rattle.table.proofs.LegalTables.{sized-known}
 use Rattle.region.specs.Region.{tableIn}
 use Rattle.region.proofs.Words.{length-in}
 use Rattle.region.proofs.legal.Statement.{statement}

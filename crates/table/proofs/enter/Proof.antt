@@ -1,6 +1,6 @@
 use mathlib.Core.Path.{sym, _∙_}
 use borrow.Author.Needs.{needs}
-use Rattle.table.proofs.Known.{legal-known, enter-bad, enter-found}
+use Rattle.table.proofs.LegalTables.{legal-known, enter-bad, enter-found}
 use Rattle.table.proofs.enter.Statement.{statement}
 use Rattle.table.proofs.enter.Tie as tie
 

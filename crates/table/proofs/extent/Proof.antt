@@ -1,7 +1,7 @@
 use mathlib.Core.Path.{sym}
 use native.Mathlib.Omega.{arith}
 use borrow.Author.Needs.{needs}
-use Rattle.table.proofs.Known.{room-many, room-few}
+use Rattle.table.proofs.LegalTables.{room-many, room-few}
 use Rattle.table.proofs.extent.Statement.{statement}
 use Rattle.table.proofs.extent.Tie as tie
 

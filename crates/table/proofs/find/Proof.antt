@@ -22,7 +22,7 @@ find-spec =
     (λ c κs. search needs)
     (λ c. search needs)
     (λ c.
-    let w = c .before .wide .ensures in
+    let w = c .before .to-size .ensures in
     (search needs, w, search-start _ _ _ w))
     (λ c. search needs)
     (λ c. search needs)

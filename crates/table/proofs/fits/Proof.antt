@@ -2,7 +2,7 @@ use mathlib.Core.Path.{sym}
 use lib.ListN.{length}
 use Rattle.table.specs.Table.{count}
 use borrow.Author.Needs.{needs}
-use Rattle.table.proofs.Known.{sized-short, some-extent}
+use Rattle.table.proofs.LegalTables.{sized-short, some-extent}
 use Rattle.table.proofs.fits.Statement.{statement}
 use Rattle.table.proofs.fits.Tie as tie
 
@@ -17,4 +17,4 @@ fits-spec =
     (λ c κs. search needs)
     (λ c.
     let ws = c .before .before .before .before .before .before .args .table .now in
-    rw (c .extent .ensures, c .before .wide .ensures, some-extent (count ws) (length ws))))
+    rw (c .extent .ensures, c .before .to-size .ensures, some-extent (count ws) (length ws))))

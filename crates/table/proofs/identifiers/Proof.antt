@@ -4,8 +4,8 @@ use Prim.Native.Nat.{_-_, _≤_}
 use borrow.Author.Needs.{needs}
 use lib.ListN.{replicate}
 use lib.Seq.{sets}
-use Rattle.record.specs.Legal.{maxSets}
-use Rattle.table.specs.Table.{count, idOf, recordsOf}
+use Rattle.record.specs.Record.{idOf}
+use Rattle.table.specs.Table.{count, recordsOf, maxSets}
 use Rattle.table.proofs.Turns.{later, later-none, later-all, ids-more}
 use Rattle.table.proofs.identifiers.Statement.{statement}
 use Rattle.table.proofs.identifiers.Tie as tie
@@ -25,7 +25,7 @@ identifiers-spec =
     μ-loop
     (λ c. search needs)
     (λ c κs. search needs)
-    (λ c. let w = c .wide .ensures in (search needs, w, rw (later-all _ _ w)))
+    (λ c. let w = c .to-size .ensures in (search needs, w, rw (later-all _ _ w)))
     (λ c. search needs)
     (λ c. search needs)
     (λ c. search needs)

@@ -2,7 +2,7 @@ use mathlib.Core.Path.{sym, _∙_}
 use native.Mathlib.Omega.{arith}
 use borrow.Author.Needs.{needs}
 use Rattle.table.specs.Table.{legalTable}
-use Rattle.table.proofs.Known.{sized-known}
+use Rattle.table.proofs.LegalTables.{sized-known}
 use Rattle.table.proofs.legal.Statement.{statement}
 use Rattle.table.proofs.legal.Tie as tie
 
@@ -27,7 +27,7 @@ legal-spec =
     (λ c κs. search needs)
     (λ c κs.
     let t = c .before .before in
-    let w = c .wide .ensures in
+    let w = c .to-size .ensures in
     (w, omega (arith, w, sized-known (t .before .before .before .args .table .now) (sym (t .before .fits2 .ensures) ∙ t .if1 .taken))))
     returns
     returns-2)

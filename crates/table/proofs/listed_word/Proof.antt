@@ -21,7 +21,7 @@ listed-word-spec =
     μ-loop
     (λ c. search needs)
     (λ c κs. search needs)
-    (λ c. (search needs, rw (c .wide .ensures) (gathered-none _ _)))
+    (λ c. (search needs, rw (c .to-size .ensures) (gathered-none _ _)))
     (λ c. search needs)
     (λ c.
     let l = c .before .loop in

@@ -43,9 +43,9 @@ use denote.Exit.{yes}
 use Rattle.record.specs.declared.Record.{Record}
 use Rattle.record.proofs.Record as T
 use Rattle.record.proofs.Record.Laws as T′
-use Rattle.steps.specs.declared.Media.{Media}
-use Rattle.steps.proofs.Media as N
-use Rattle.steps.proofs.Media.Laws as N′
+use Rattle.rules.specs.declared.Media.{Media}
+use Rattle.rules.proofs.Media as N
+use Rattle.rules.proofs.Media.Laws as N′
 use Rattle.by_reference.specs.declared.records.Charged.{Charged}
 use Rattle.by_reference.specs.Records.{charged, ChargedInPlace}
 use Rattle.by_reference.proofs.records.Charged as U

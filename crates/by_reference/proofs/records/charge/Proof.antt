@@ -41,12 +41,12 @@ use denote.Triple.Clauses.{ensured, lasts}
 use denote.Exit.{yes}
 use Rattle.by_reference.specs.Records.{charged}
 use Rattle.record.specs.declared.Record.{Record}
-use Rattle.steps.specs.declared.Media.{Media}
+use Rattle.rules.specs.declared.Media.{Media}
 use Rattle.by_reference.specs.declared.records.Charged.{Charged}
 use Rattle.record.proofs.Record as T
 use Rattle.record.proofs.Record.Laws as T′
-use Rattle.steps.proofs.Media as N
-use Rattle.steps.proofs.Media.Laws as N′
+use Rattle.rules.proofs.Media as N
+use Rattle.rules.proofs.Media.Laws as N′
 use Rattle.by_reference.proofs.records.Charged as U
 use Rattle.by_reference.proofs.records.Charged.Laws as U′
 use Rattle.by_reference.proofs.Values.{recordVal, mediaVal, chargedVal}

@@ -1,5 +1,5 @@
 use borrow.Author.Needs.{needs}
-use Rattle.octets.proofs.Passed.{word-sum}
+use Rattle.octets.proofs.WordBytes.{word-sum}
 use Rattle.octets.proofs.words.word_at.Statement.{statement}
 use Rattle.octets.proofs.words.word_at.Tie as tie
 
@@ -7,14 +7,14 @@ returns : tie.Need-returns
 returns c =
     let s = c .before .before .before .before .before .before .before .before .before .before .before .before .before .before .before .before .before in
     rw (
-      c .wide8 .ensures .0,
-      c .before .before .wide7 .ensures .0,
-      c .before .before .before .before .wide6 .ensures .0,
-      c .before .before .before .before .before .before .wide5 .ensures .0,
-      c .before .before .before .before .before .before .before .before .wide4 .ensures .0,
-      c .before .before .before .before .before .before .before .before .before .before .wide3 .ensures .0,
-      c .before .before .before .before .before .before .before .before .before .before .before .before .wide2 .ensures .0,
-      c .before .before .before .before .before .before .before .before .before .before .before .before .before .before .wide .ensures .0,
+      c .from-byte8 .ensures .0,
+      c .before .before .from-byte7 .ensures .0,
+      c .before .before .before .before .from-byte6 .ensures .0,
+      c .before .before .before .before .before .before .from-byte5 .ensures .0,
+      c .before .before .before .before .before .before .before .before .from-byte4 .ensures .0,
+      c .before .before .before .before .before .before .before .before .before .before .from-byte3 .ensures .0,
+      c .before .before .before .before .before .before .before .before .before .before .before .before .from-byte2 .ensures .0,
+      c .before .before .before .before .before .before .before .before .before .before .before .before .before .before .from-byte .ensures .0,
     )
     (word-sum (s .args .bytes .now) (s .args .at) (search needs))
 

@@ -7,7 +7,7 @@ use lib.ListN.{length}
 use lib.Seq.{sets}
 use Rattle.octets.specs.Words.{wordSize, wordsFrom}
 use Rattle.octets.proofs.Runs.{sets-whole}
-use Rattle.octets.proofs.Passed.{length-words, in-turn, in-end}
+use Rattle.octets.proofs.WordBytes.{length-words, in-turn, in-end}
 use Rattle.octets.proofs.words.words_in.Statement.{statement}
 use Rattle.octets.proofs.words.words_in.Tie as tie
 

@@ -5,7 +5,7 @@ use borrow.Author.Needs.{needs}
 use lib.ListN.{length, drop}
 use lib.Seq.{length-sets}
 use Rattle.octets.specs.Words.{wordSize, putWords}
-use Rattle.octets.proofs.Passed.{out-turn, out-end}
+use Rattle.octets.proofs.WordBytes.{out-turn, out-end}
 use Rattle.octets.proofs.words.words_out.Statement.{statement}
 use Rattle.octets.proofs.words.words_out.Tie as tie
 

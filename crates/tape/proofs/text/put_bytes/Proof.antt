@@ -36,7 +36,7 @@ put-bytes-spec =
       search needs,
       search needs,
       rw (p .put-digits .ensures, length-sets) (l .inv .2),
-      rw (p .put-digits .ensures, p .before .wide .ensures) (data-turn (l .out) (s .args .bytes .now) (l .to) (l .i) (search needs) ∙ l .inv .3),
+      rw (p .put-digits .ensures, p .before .from-byte .ensures .0) (data-turn (l .out) (s .args .bytes .now) (l .to) (l .i) (search needs) ∙ l .inv .3),
     ))
     (λ c. search needs)
     (λ c.

@@ -1,0 +1,20 @@
+use borrow.Author.Needs.{needs}
+use Rattle.table.proofs.layout.state_at.Statement.{statement}
+use Rattle.table.proofs.layout.state_at.Tie as tie
+
+pub state-at-spec : {M : Type 1} → statement M
+state-at-spec =
+    tie.close
+    (tie.spec
+    (λ c. search needs)
+    (λ c κs. search needs)
+    (λ c. search needs)
+    (λ c κs. search needs)
+    (λ c. search needs)
+    (λ c. search needs)
+    (λ c. search needs)
+    (λ c. search needs)
+    (λ c. search needs)
+    (λ c. search needs)
+    (λ c. search needs)
+    (λ c. simp (c .events-in .ensures, c .before .window-in .ensures)))

@@ -1,0 +1,168 @@
+// One set as a row of words, and back.
+ghost use mathlib.Core.Path.{_≡_};
+ghost use Rattle.record.specs.Record.{idOf};
+ghost use Rattle.table.specs.Layout.{fieldsOf, wordsOf, windowIn, attributesAt, stateAt, notesAt, recordOf};
+use octets::casts::from_size;
+use record::Attributes;
+use record::Capacity;
+use record::Config;
+use record::Group;
+use record::Notes;
+use record::Record;
+use record::SetId;
+use record::State;
+use record::Thresholds;
+use record::Window;
+use record::event::bit_of;
+use record::event::bits_of;
+use record::event::events_in;
+use record::windows::window_no;
+
+// The header: the number of this layout, which every change of it raises, then the number of sets.
+pub const HEADER: usize = 2;
+
+pub const LAYOUT: u64 = 65537;
+
+pub const ROW: usize = 24;
+
+// Places in a row: of the window, after which come all words that items other than Set Features 13h change; of the events, with
+// which the notes begin; and of the listed mark.
+pub const WINDOW: usize = 17;
+
+pub const NOTES: usize = 22;
+
+pub const LISTED: usize = 23;
+
+fn fields_of(r: Record) -> [u64; ROW]
+    ensures { λ a. ⌜ a ≡ fieldsOf r ⌝ }
+{
+    let s = r.state;
+    let w = s.window;
+    let enabled = r.state.config.enabled;
+    let events = r.notes.events;
+    let window = from_size(window_no(w));
+    let enev = bits_of(enabled);
+    let bits = bits_of(events);
+    let listed = bit_of(r.notes.listed);
+    [
+        r.attributes.id.0 as u64,
+        r.attributes.group.0 as u64,
+        r.attributes.random_read_typical as u64,
+        r.attributes.optimal_write_size as u64,
+        r.attributes.total.low,
+        r.attributes.total.high,
+        r.attributes.unallocated.low,
+        r.attributes.unallocated.high,
+        r.attributes.reads_typical,
+        r.attributes.writes_typical,
+        r.attributes.time_maximum,
+        r.attributes.minimum_high,
+        r.attributes.minimum_low,
+        enev,
+        r.state.config.thresholds.reads,
+        r.state.config.thresholds.writes,
+        r.state.config.thresholds.time,
+        window,
+        r.state.reads,
+        r.state.writes,
+        r.state.time,
+        r.state.n_time,
+        bits,
+        listed,
+    ]
+}
+
+fn window_in(n: u64) -> Window
+    ensures { λ r. ⌜ r ≡ windowIn n ⌝ }
+{
+    if n == 0 {
+        Window::Off
+    } else if n == 1 {
+        Window::D
+    } else {
+        Window::N
+    }
+}
+
+fn attributes_at(a: [u64; ROW]) -> Attributes
+    ensures { λ r. ⌜ r ≡ attributesAt a ⌝ }
+{
+    Attributes {
+        id: SetId((a[0] % 65536) as u16),
+        group: Group((a[1] % 65536) as u16),
+        random_read_typical: (a[2] % 4294967296) as u32,
+        optimal_write_size: (a[3] % 4294967296) as u32,
+        total: Capacity {
+            low: a[4],
+            high: a[5],
+        },
+        unallocated: Capacity {
+            low: a[6],
+            high: a[7],
+        },
+        reads_typical: a[8],
+        writes_typical: a[9],
+        time_maximum: a[10],
+        minimum_high: a[11],
+        minimum_low: a[12],
+    }
+}
+
+fn state_at(a: [u64; ROW]) -> State
+    ensures { λ r. ⌜ r ≡ stateAt a ⌝ }
+{
+    let window = window_in(a[17]);
+    let enabled = events_in(a[13]);
+    let thresholds = Thresholds {
+        reads: a[14],
+        writes: a[15],
+        time: a[16],
+    };
+    let config = Config {
+        enabled: enabled,
+        thresholds: thresholds,
+    };
+    State {
+        window: window,
+        config: config,
+        reads: a[18],
+        writes: a[19],
+        time: a[20],
+        n_time: a[21],
+    }
+}
+
+fn notes_at(a: [u64; ROW]) -> Notes
+    ensures { λ r. ⌜ r ≡ notesAt a ⌝ }
+{
+    let events = events_in(a[22]);
+    Notes {
+        events: events,
+        listed: a[23] == 1,
+    }
+}
+
+pub fn record_of(a: [u64; ROW]) -> Record
+    ensures { λ r. ⌜ r ≡ recordOf a ⌝ }
+{
+    let attributes = attributes_at(a);
+    let state = state_at(a);
+    let notes = notes_at(a);
+    Record {
+        attributes: attributes,
+        state: state,
+        notes: notes,
+    }
+}
+
+pub fn words_of(r: Record) -> [u64; ROW]
+    ensures { λ a. ⌜ a ≡ wordsOf r ⌝ }
+{
+    fields_of(r)
+}
+
+pub fn id_in(a: [u64; ROW]) -> u64
+    ensures { λ r. ⌜ r ≡ idOf (recordOf a) ⌝ }
+{
+    a[0] % 65536
+}
