@@ -3,7 +3,7 @@ use mathlib.Core.Path.{_≡_, refl, sym, ap, _∙_}
 use mathlib.Core.Bool.{Bool, true, false}
 use mathlib.Core.List.{List}
 use Prim.Native.Nat.{ℕ, _+_, _-_, _^_, _≤_, _<_}
-use native.Mathlib.Nat.{add-zero}
+use native.Mathlib.Nat.{zero-add}
 use native.Mathlib.Omega.{arith}
 use borrow.Author.Needs.{needs}
 use lib.Dec.{eqb}
@@ -12,11 +12,13 @@ use lib.Seq.{sets}
 use borrow.Author.Tests.{leb-true}
 use Rattle.octets.specs.Choice.{if_then_else_}
 use Rattle.octets.specs.Octets.{part}
-use Rattle.octets.specs.Pages.{Fit, readings, values}
-use Rattle.octets.proofs.Tests.{and-left, and-right}
+use Rattle.octets.specs.declared.Place.{Place}
+use Rattle.octets.specs.Pages.{readAt, Fit, readings, values}
+use Rattle.octets.proofs.JoinedTests.{and-left, and-right}
 use Rattle.octets.proofs.Runs.{Apart, part-same, part-other}
 use Rattle.octets.proofs.Pages.{read-back}
 use Rattle.record.specs.declared.Attributes.{Attributes}
+use Rattle.record.specs.declared.Capacity.{Capacity}
 use Rattle.record.specs.declared.Events.{Events}
 use Rattle.record.specs.declared.Config.{Config}
 use Rattle.record.specs.declared.Window.{Window}
@@ -25,16 +27,18 @@ use Rattle.record.specs.declared.Quantity.{Quantity}
 use Rattle.record.specs.declared.Quantity.the-variants.{Reads, Writes, Time}
 use Rattle.record.specs.declared.State.{State}
 use Rattle.record.specs.declared.Record.{Record}
-use Rattle.record.specs.Record.{limit, spent, need}
-use Rattle.record.specs.Window.{byWindow, windowNo}
+use Rattle.record.specs.Quantities.{limit, spent, need}
+use Rattle.record.specs.Windows.{byWindow, windowNo}
 use Rattle.record.specs.Legal.{typicalMaximum, dayMs, legalAttributes}
-use Rattle.record.specs.Events.{bit, bitsOf, eventsIn, estimate}
-use Rattle.record.proofs.Bits.{events-back}
-use Rattle.pages.specs.Numbers.{numberAt}
-use Rattle.pages.specs.Bodies.{bodySize, bodyFields, body, attributesIn, Sized}
+use Rattle.record.specs.Event.{bit, bitsOf, eventsIn, estimate}
+use Rattle.record.proofs.EventBits.{events-back}
+use Rattle.octets.specs.Numbers.{numberAt}
+use Rattle.pages.specs.Capacities.{lowHalf, highHalf, capacityIn}
+use Rattle.pages.specs.Bodies.{bodySize, bodyId, bodyGroup, bodyRandomRead, bodyOptimalWrite, bodyTotal, bodyUnallocated, bodyReads, bodyWrites, bodyTime, bodyHigh, bodyLow, bodyFields, body, attributesIn, Sized}
 use Rattle.pages.specs.Latency.{latencySize, latencyFields, latencyPage}
-use Rattle.pages.specs.Features.{featureSize, configFields, configPage, configIn, Words}
-use Rattle.pages.proofs.Numbers.{number-below, number-within, length-place}
+use Rattle.pages.specs.Features.{featureSize, configReads, configWrites, configTime, configFields, configPage, configIn, Words}
+use Rattle.octets.proofs.Pages.{length-place}
+use Rattle.octets.proofs.Reading.{number-below, number-within}
 
 -- ---- set-up bodies
 
@@ -55,6 +59,30 @@ attributesOf l =
       «minimum_low» = getD l 12 0;
     }
 
+-- what is read number by number
+module _ (bytes : List ℕ) (at id group random optimal : ℕ) (total unallocated : Capacity) (reads writes time high low : ℕ) where
+  pub numbers-read :
+      id ≡ readAt bytes at bodyId → group ≡ readAt bytes at bodyGroup
+      → random ≡ readAt bytes at bodyRandomRead → optimal ≡ readAt bytes at bodyOptimalWrite
+      → total ≡ capacityIn bytes at bodyTotal → unallocated ≡ capacityIn bytes at bodyUnallocated
+      → reads ≡ readAt bytes at bodyReads → writes ≡ readAt bytes at bodyWrites → time ≡ readAt bytes at bodyTime
+      → high ≡ readAt bytes at bodyHigh → low ≡ readAt bytes at bodyLow
+      → record {
+        id = record { 0 = id };
+        group = record { 0 = group };
+        «random_read_typical» = random;
+        «optimal_write_size» = optimal;
+        total = total;
+        unallocated = unallocated;
+        «reads_typical» = reads;
+        «writes_typical» = writes;
+        «time_maximum» = time;
+        «minimum_high» = high;
+        «minimum_low» = low;
+      }
+      ≡ attributesIn bytes at
+  numbers-read e1 e2 e3 e4 e5 e6 e7 e8 e9 e10 e11 = rw (e1, e2, e3, e4, e5, e6, e7, e8, e9, e10, e11)
+
 sized-fit : (a : Attributes) → Sized a → Fit (bodyFields a)
 sized-fit a s = search needs
 
@@ -65,14 +93,26 @@ body-back a s = ap attributesOf (read-back bodySize (bodyFields a) refl (sized-f
 
 -- attributes are read from a body's bytes alone
 module _ (l : List ℕ) (at : ℕ) where
-  there : (k w : ℕ) → k + w ≤ bodySize → numberAt (part l at bodySize) k w ≡ numberAt l (at + k) w
-  there k w h = number-within l at bodySize k w h
+  there : (p : Place) → p .at + p .width ≤ bodySize → readAt (part l at bodySize) 0 p ≡ readAt l at p
+  there p h = ap (λ (k : ℕ). numberAt (part l at bodySize) k (p .width)) (zero-add (p .at)) ∙ number-within l at bodySize (p .at) (p .width) h
 
   pub body-alone : attributesIn (part l at bodySize) 0 ≡ attributesIn l at
   body-alone =
-      let total : at + 12 + 8 ≡ at + 20 = omega arith in
-      let unallocated : at + 28 + 8 ≡ at + 36 = omega arith in
-      rw (total, unallocated, there 0 2 (omega arith), add-zero, there 2 2 (omega arith), there 4 4 (omega arith), there 8 4 (omega arith), there 12 8 (omega arith), there 20 8 (omega arith), there 28 8 (omega arith), there 36 8 (omega arith), there 44 8 (omega arith), there 52 8 (omega arith), there 60 8 (omega arith), there 68 8 (omega arith), there 76 8 (omega arith))
+      rw (
+        there bodyId (omega arith),
+        there bodyGroup (omega arith),
+        there bodyRandomRead (omega arith),
+        there bodyOptimalWrite (omega arith),
+        there (lowHalf bodyTotal) (omega arith),
+        there (highHalf bodyTotal) (omega arith),
+        there (lowHalf bodyUnallocated) (omega arith),
+        there (highHalf bodyUnallocated) (omega arith),
+        there bodyReads (omega arith),
+        there bodyWrites (omega arith),
+        there bodyTime (omega arith),
+        there bodyHigh (omega arith),
+        there bodyLow (omega arith),
+      )
 
 pub body-length : (a : Attributes) → length (body a) ≡ bodySize
 unfolding body
@@ -94,22 +134,25 @@ module _ (l : List ℕ) (at : ℕ) (a : Attributes) where
 
 -- what is read from bytes fits
 module _ (bytes : List ℕ) (each : (i : ℕ) → getD bytes i 0 < 256) (at : ℕ) (room : at + bodySize ≤ length bytes) where
+  fits : (p : Place) → p .at + p .width ≤ bodySize → readAt bytes at p < 256 ^ p .width
+  fits p h = number-below bytes each (at + p .at) (p .width) (omega arith)
+
   pub read-sized : Sized (attributesIn bytes at)
   read-sized =
       record {
-        id = number-below bytes each at 2 (omega arith);
-        group = number-below bytes each (at + 2) 2 (omega arith);
-        «random_read_typical» = number-below bytes each (at + 4) 4 (omega arith);
-        «optimal_write_size» = number-below bytes each (at + 8) 4 (omega arith);
-        «total_low» = number-below bytes each (at + 12) 8 (omega arith);
-        «total_high» = number-below bytes each (at + 12 + 8) 8 (omega arith);
-        «unallocated_low» = number-below bytes each (at + 28) 8 (omega arith);
-        «unallocated_high» = number-below bytes each (at + 28 + 8) 8 (omega arith);
-        «reads_typical» = number-below bytes each (at + 44) 8 (omega arith);
-        «writes_typical» = number-below bytes each (at + 52) 8 (omega arith);
-        «time_maximum» = number-below bytes each (at + 60) 8 (omega arith);
-        «minimum_high» = number-below bytes each (at + 68) 8 (omega arith);
-        «minimum_low» = number-below bytes each (at + 76) 8 (omega arith);
+        id = fits bodyId (omega arith);
+        group = fits bodyGroup (omega arith);
+        «random_read_typical» = fits bodyRandomRead (omega arith);
+        «optimal_write_size» = fits bodyOptimalWrite (omega arith);
+        «total_low» = fits (lowHalf bodyTotal) (omega arith);
+        «total_high» = fits (highHalf bodyTotal) (omega arith);
+        «unallocated_low» = fits (lowHalf bodyUnallocated) (omega arith);
+        «unallocated_high» = fits (highHalf bodyUnallocated) (omega arith);
+        «reads_typical» = fits bodyReads (omega arith);
+        «writes_typical» = fits bodyWrites (omega arith);
+        «time_maximum» = fits bodyTime (omega arith);
+        «minimum_high» = fits bodyHigh (omega arith);
+        «minimum_low» = fits bodyLow (omega arith);
       }
 
 -- ---- the data of feature 13h
@@ -138,9 +181,9 @@ config-back c w =
 pub read-words : (bytes : List ℕ) → ((i : ℕ) → getD bytes i 0 < 256) → featureSize ≤ length bytes → Words (configIn bytes .thresholds)
 read-words bytes each room =
     record {
-      reads = number-below bytes each 32 8 (omega arith);
-      writes = number-below bytes each 40 8 (omega arith);
-      time = number-below bytes each 48 8 (omega arith);
+      reads = number-below bytes each (configReads .at) (configReads .width) (omega arith);
+      writes = number-below bytes each (configWrites .at) (configWrites .width) (omega arith);
+      time = number-below bytes each (configTime .at) (configTime .width) (omega arith);
     }
 
 -- ---- log page 0Ah

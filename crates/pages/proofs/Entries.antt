@@ -12,11 +12,11 @@ use lib.ListN.{length, replicate, length-append}
 use lib.Seq.{sets}
 use Rattle.octets.specs.Octets.{bytesOf}
 use borrow.Author.Needs.{needs}
-use Rattle.octets.specs.Pages.{Field, puts, tidy, Fit, readings, values}
-use Rattle.octets.proofs.Tests.{both}
+use Rattle.octets.specs.Pages.{Field, puts, place, tidy, Fit, readings, values}
+use Rattle.octets.proofs.JoinedTests.{both}
 use Rattle.octets.proofs.Runs.{sets-comm}
-use Rattle.octets.proofs.Pages.{placed, read-back}
-use Rattle.pages.proofs.Numbers.{length-puts}
+use Rattle.octets.proofs.Pages.{placed, made-onto, read-back, puts-more}
+use Rattle.octets.proofs.Pages.{length-puts}
 use Rattle.record.specs.declared.Attributes.{Attributes}
 use Rattle.pages.specs.Bodies.{Sized, AllSized}
 use Rattle.pages.specs.Identify.{identifySize, entrySize, firstEntry, identifyEntries, shownIf, shown, entryFields, entriesAt, identifyFields, identifyPage, Shows}
@@ -24,7 +24,17 @@ use Rattle.pages.specs.Identify.{identifySize, entrySize, firstEntry, id
 -- the fields of an entry stand in order, and what follows them after its last
 entry-tidy : (to from size : ℕ) (a : Attributes) (fs : List Field) → from ≤ to → tidy (to + 40 + 8) size fs ≡ true → tidy from size (entryFields to a ++ fs) ≡ true
 entry-tidy to from size a fs l h =
-    rw (le-leb from to l, le-leb (to + 2) (to + 2) (omega arith), le-leb (to + 2 + 2) (to + 8) (omega arith), le-leb (to + 8 + 4) (to + 12) (omega arith), le-leb (to + 12 + 4) (to + 16) (omega arith), le-leb (to + 16 + 8) (to + 24) (omega arith), le-leb (to + 24 + 8) (to + 32) (omega arith), le-leb (to + 32 + 8) (to + 40) (omega arith)) h
+    rw (
+      le-leb from (to + 0) (omega arith),
+      le-leb (to + 0 + 2) (to + 2) (omega arith),
+      le-leb (to + 2 + 2) (to + 8) (omega arith),
+      le-leb (to + 8 + 4) (to + 12) (omega arith),
+      le-leb (to + 12 + 4) (to + 16) (omega arith),
+      le-leb (to + 16 + 8) (to + 24) (omega arith),
+      le-leb (to + 24 + 8) (to + 32) (omega arith),
+      le-leb (to + 32 + 8) (to + 40) (omega arith),
+    )
+    h
 
 pub one-tidy : (to size : ℕ) (a : Attributes) → to + entrySize ≤ size → tidy 0 size (entryFields to a) ≡ true
 one-tidy to size a h = entry-tidy to 0 size a [] (omega arith) (le-leb (to + 40 + 8) size (omega arith))
@@ -56,10 +66,6 @@ entries-more [] ys to = rw add-zero
 entries-more (a ∷ xs) ys to =
     let e : to + entrySize + entrySize * length xs ≡ to + entrySize * suc (length xs) = omega arith in
     ap (λ (fs : List Field). entryFields to a ++ fs) (entries-more xs ys (to + entrySize) ∙ rw e)
-
-puts-more : (fs gs : List Field) (page : List ℕ) → puts page (fs ++ gs) ≡ puts (puts page fs) gs
-puts-more [] gs page = refl
-puts-more (f ∷ fs) gs page = puts-more fs gs (sets page (f .at) (bytesOf (f .width) (f .value)))
 
 -- the entries of sets stand in order
 entries-tidy : (xs : List Attributes) (to from size : ℕ) → from ≤ to → to + entrySize * length xs ≤ size → tidy from size (entriesAt to xs) ≡ true
@@ -131,12 +137,35 @@ show-whole from all page page′ to et ep ec =
     (entries-tidy listed firstEntry 1 (firstEntry + entrySize * length listed) (omega arith) (omega arith)) (omega arith)
     ∙ placed identifySize (identifyFields listed)
 
--- ---- the page read back
-
 shown-few : (from : ℕ) (xs : List Attributes) → length (shown from xs) ≤ length xs
 shown-few from [] = omega arith
 shown-few from (a ∷ xs) =
     omega (arith, shown-few from xs, one-at-most (leb from (a .id .0)) a, ap length (shown-first from a xs) ∙ length-append (shown from (a ∷ [])) (shown from xs))
+
+-- the fields of the page stand in order
+fields-tidy : (from : ℕ) (all : List Attributes) → length all ≤ identifyEntries → tidy 0 identifySize (identifyFields (shown from all)) ≡ true
+fields-tidy from all few =
+    let n = shown-few from all in
+    entries-tidy (shown from all) firstEntry 1 identifySize (omega arith) (omega arith)
+
+-- the same where the page is made on the first bytes of an answer: cleared, then all shown there, then the count
+pub show-onto : (from : ℕ) (all : List Attributes) (answer start page page′ : List ℕ) (to : ℕ)
+    → length all ≤ identifyEntries → identifySize ≤ length answer → start ≡ sets answer 0 (place identifySize [])
+    → to ≡ firstEntry + entrySize * length (shown from all)
+    → page ≡ puts start (entriesAt firstEntry (shown from all))
+    → page′ ≡ sets page 0 (bytesOf 1 ((to - firstEntry) / entrySize)) → page′ ≡ sets answer 0 (identifyPage from all)
+unfolding identifyPage
+show-onto from all answer start page page′ to few room es et ep ec =
+    let listed : List Attributes = shown from all in
+    let n : (to - firstEntry) / entrySize ≡ length listed = omega arith in
+    made-onto identifySize (identifyFields listed) answer start page′ (fields-tidy from all few) room es
+    (ec
+    ∙ ap (λ (k : ℕ). sets page 0 (bytesOf 1 k)) n
+    ∙ ap (λ (l : List ℕ). sets l 0 (bytesOf 1 (length listed))) ep
+    ∙ put-later (entriesAt firstEntry listed) start (bytesOf 1 (length listed)) 1 (firstEntry + entrySize * length listed)
+    (entries-tidy listed firstEntry 1 (firstEntry + entrySize * length listed) (omega arith) (omega arith)) (omega arith))
+
+-- ---- the page read back
 
 sized-if : (b : Bool) (a : Attributes) (others : List Attributes) → Sized a → AllSized others → AllSized (shownIf b a others)
 sized-if true a others s o = (s, o)
@@ -151,7 +180,7 @@ entries-fit [] to s = tt
 entries-fit (a ∷ xs) to s =
     let f = entries-fit xs (to + entrySize) (s .1) in
     let z = s .0 in
-    search needs
+    (z .id, (z .group, (z .«random_read_typical», (z .«optimal_write_size», (z .«total_low», (z .«total_high», (z .«unallocated_low», (z .«unallocated_high», f))))))))
 
 -- the page read at its fields gives back the count and the entries
 pub identify-back : (from : ℕ) (all : List Attributes) → length all ≤ identifyEntries → AllSized all
@@ -159,5 +188,5 @@ pub identify-back : (from : ℕ) (all : List Attributes) → length all ≤ iden
 unfolding identifyPage
 identify-back from all few s =
     let n = shown-few from all in
-    read-back identifySize (identifyFields (shown from all)) (entries-tidy (shown from all) firstEntry 1 identifySize (omega arith) (omega arith))
+    read-back identifySize (identifyFields (shown from all)) (fields-tidy from all few)
     (omega arith, entries-fit (shown from all) firstEntry (shown-sized from all s))

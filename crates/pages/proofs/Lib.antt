@@ -1,4 +1,3 @@
-pub mod Numbers
 pub mod Back
 pub mod Listed
 pub mod Entries

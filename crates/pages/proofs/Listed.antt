@@ -15,9 +15,9 @@ use borrow.Author.Tests.{le-leb}
 use Rattle.octets.specs.Octets.{bytesOf}
 use Rattle.octets.specs.Pages.{puts, tidy, Fit, readings, values}
 use Rattle.octets.proofs.Pages.{placed, read-back}
-use Rattle.record.specs.Events.{bit, wordOf}
-use Rattle.record.specs.Legal.{maxSets}
-use Rattle.pages.specs.Aggregate.{listedIf, picked, listedBy, aggregateSize, entriesFrom, listFields, aggregatePage}
+use Rattle.record.specs.Event.{bit}
+use Rattle.table.specs.Table.{maxSets, wordOf}
+use Rattle.pages.specs.Aggregate.{listedIf, picked, listedBy, aggregateSize, listedSize, entriesFrom, listFields, aggregatePage}
 
 -- a word without its lowest one
 unfoldable cleared : ℕ → ℕ
@@ -123,6 +123,20 @@ listed-marks (id ∷ ids) (m ∷ marks) e =
     let a : (wordOf marks * 2 + bit m) % 2 ≡ bit m = omega (arith, bit-is m .0) in
     let b : (wordOf marks * 2 + bit m) / 2 ≡ wordOf marks = omega (arith, bit-is m .0) in
     rw (a, b, bit-is m .1, listed-marks ids marks (omega arith))
+
+-- ---- an entry: two bytes of a number are those of its lowest 16 bits
+
+rests : (a b q : ℕ) → b ≡ q * 256 + a → a % 256 ≡ b % 256
+rests a b q e = omega arith
+
+pub two-bytes : (n x : ℕ) → n ≡ x % 2 ^ 16 → bytesOf listedSize n ≡ bytesOf listedSize x
+two-bytes n x e =
+    let q : ℕ = x / 2 ^ 16 in
+    let whole : x ≡ q * 2 ^ 16 + n = omega arith in
+    let low : n % 256 ≡ x % 256 = omega arith in
+    let part : x / 256 ≡ q * 256 + n / 256 = omega arith in
+    let high : n / 256 % 256 ≡ x / 256 % 256 = rests (n / 256) (x / 256) q part in
+    rw (low, high)
 
 -- ---- a turn of the loop that lists, over plain variables
 

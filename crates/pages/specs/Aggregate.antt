@@ -1,11 +1,12 @@
 -- 01, "Commands": log page 0Bh.
 use mathlib.Core.Bool.{Bool}
-use mathlib.Core.List.{List, [], _∷_}
+use mathlib.Core.List.{List, [], _∷_, _++_}
 use Prim.Native.Nat.{ℕ, _+_, _/_, _%_}
 use lib.Dec.{eqb}
 use lib.ListN.{length}
 use Rattle.octets.specs.Choice.{if_then_else_}
-use Rattle.octets.specs.Pages.{Field, field, place}
+use Rattle.octets.specs.declared.Place.{Place}
+use Rattle.octets.specs.Pages.{Field, field, span, fieldsAt, place}
 
 -- ---- the listed sets
 
@@ -30,14 +31,23 @@ listedBy word (id ∷ ids) = listedIf (eqb (word % 2) 1) id (listedBy (word / 2)
 abbrev pub aggregateSize : ℕ
 aggregateSize = 72
 
--- "two bytes each", from a place
+-- where each number lies: "7:0 number of entries, then two bytes each, rising"
+abbrev pub listCount : Place
+listCount = span 0 8
+
+abbrev pub firstListed : ℕ
+firstListed = 8
+
+abbrev pub listedSize : ℕ
+listedSize = 2
+
+-- the entries from a place
 abbrev pub entriesFrom : ℕ → List ℕ → List Field
 entriesFrom at [] = []
-entriesFrom at (id ∷ ids) = field at 2 id ∷ entriesFrom (at + 2) ids
+entriesFrom at (id ∷ ids) = field at listedSize id ∷ entriesFrom (at + listedSize) ids
 
--- "7:0 number of entries, then two bytes each, rising"
 abbrev pub listFields : List ℕ → List Field
-listFields ids = field 0 8 (length ids) ∷ entriesFrom 8 ids
+listFields ids = fieldsAt (listCount ∷ []) (length ids ∷ []) ++ entriesFrom firstListed ids
 
 -- "then zeros"
 unfoldable pub aggregatePage : List ℕ → List ℕ

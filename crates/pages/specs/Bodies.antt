@@ -1,58 +1,91 @@
 -- 01, "One set's record": a set's attributes as the 84 bytes that set-up takes.
-use mathlib.Core.List.{List, [], _∷_}
-use Prim.Native.Nat.{ℕ, _+_, _^_, _<_}
-use Rattle.octets.specs.Pages.{Field, field, place}
-use Rattle.record.specs.declared.Capacity.{Capacity}
+use mathlib.Core.List.{List, [], _∷_, _++_}
+use Prim.Native.Nat.{ℕ, _^_, _<_}
+use Rattle.octets.specs.declared.Place.{Place}
+use Rattle.octets.specs.Pages.{Field, span, fieldsAt, readAt, place}
 use Rattle.record.specs.declared.Attributes.{Attributes}
-use Rattle.pages.specs.Numbers.{numberAt}
+use Rattle.pages.specs.Capacities.{halves, halvesOf, capacityIn, namesOf, limitsOf}
 
 -- "07h set attributes in the order above, 84"
 abbrev pub bodySize : ℕ
 bodySize = 84
 
+-- ---- where each number lies
+
 -- "identifier ..; endurance group ..; random read typical (4 bytes); optimal write size (4); total and unallocated
 -- capacity (16 each ..); reads typical and writes typical ..; time maximum, minimum high and minimum low .. These last
--- five take 8 bytes each." A capacity is two fields, its lower 64 bits first: "All numbers little-endian."
+-- five take 8 bytes each."
+abbrev pub bodyId : Place
+bodyId = span 0 2
+
+abbrev pub bodyGroup : Place
+bodyGroup = span 2 2
+
+abbrev pub bodyRandomRead : Place
+bodyRandomRead = span 4 4
+
+abbrev pub bodyOptimalWrite : Place
+bodyOptimalWrite = span 8 4
+
+abbrev pub bodyTotal : Place
+bodyTotal = span 12 16
+
+abbrev pub bodyUnallocated : Place
+bodyUnallocated = span 28 16
+
+abbrev pub bodyReads : Place
+bodyReads = span 44 8
+
+abbrev pub bodyWrites : Place
+bodyWrites = span 52 8
+
+abbrev pub bodyTime : Place
+bodyTime = span 60 8
+
+abbrev pub bodyHigh : Place
+bodyHigh = span 68 8
+
+abbrev pub bodyLow : Place
+bodyLow = span 76 8
+
+-- as they are put: four numbers, two capacities, five limits
+abbrev pub bodyNames : List Place
+bodyNames = bodyId ∷ bodyGroup ∷ bodyRandomRead ∷ bodyOptimalWrite ∷ []
+
+abbrev pub bodyLimits : List Place
+bodyLimits = bodyReads ∷ bodyWrites ∷ bodyTime ∷ bodyHigh ∷ bodyLow ∷ []
+
+abbrev pub bodyPlaces : List Place
+bodyPlaces = bodyNames ++ halves bodyTotal ++ halves bodyUnallocated ++ bodyLimits
+
+-- ---- a body made
+
+abbrev pub bodyValues : Attributes → List ℕ
+bodyValues a = namesOf a ++ halvesOf (a .total) ++ halvesOf (a .unallocated) ++ limitsOf a
+
 abbrev pub bodyFields : Attributes → List Field
-bodyFields a =
-    field 0 2 (a .id .0)
-    ∷ field 2 2 (a .group .0)
-    ∷ field 4 4 (a .«random_read_typical»)
-    ∷ field 8 4 (a .«optimal_write_size»)
-    ∷ field 12 8 (a .total .low)
-    ∷ field 20 8 (a .total .high)
-    ∷ field 28 8 (a .unallocated .low)
-    ∷ field 36 8 (a .unallocated .high)
-    ∷ field 44 8 (a .«reads_typical»)
-    ∷ field 52 8 (a .«writes_typical»)
-    ∷ field 60 8 (a .«time_maximum»)
-    ∷ field 68 8 (a .«minimum_high»)
-    ∷ field 76 8 (a .«minimum_low»)
-    ∷ []
+bodyFields a = fieldsAt bodyPlaces (bodyValues a)
 
 unfoldable pub body : Attributes → List ℕ
 body a = place bodySize (bodyFields a)
 
 -- ---- a body read
 
-abbrev pub capacityIn : List ℕ → ℕ → Capacity
-capacityIn bytes at = record { low = numberAt bytes at 8; high = numberAt bytes (at + 8) 8 }
-
 -- the attributes of the body that starts at a place
 abbrev pub attributesIn : List ℕ → ℕ → Attributes
 attributesIn bytes at =
     record {
-      id = record { 0 = numberAt bytes at 2 };
-      group = record { 0 = numberAt bytes (at + 2) 2 };
-      «random_read_typical» = numberAt bytes (at + 4) 4;
-      «optimal_write_size» = numberAt bytes (at + 8) 4;
-      total = capacityIn bytes (at + 12);
-      unallocated = capacityIn bytes (at + 28);
-      «reads_typical» = numberAt bytes (at + 44) 8;
-      «writes_typical» = numberAt bytes (at + 52) 8;
-      «time_maximum» = numberAt bytes (at + 60) 8;
-      «minimum_high» = numberAt bytes (at + 68) 8;
-      «minimum_low» = numberAt bytes (at + 76) 8;
+      id = record { 0 = readAt bytes at bodyId };
+      group = record { 0 = readAt bytes at bodyGroup };
+      «random_read_typical» = readAt bytes at bodyRandomRead;
+      «optimal_write_size» = readAt bytes at bodyOptimalWrite;
+      total = capacityIn bytes at bodyTotal;
+      unallocated = capacityIn bytes at bodyUnallocated;
+      «reads_typical» = readAt bytes at bodyReads;
+      «writes_typical» = readAt bytes at bodyWrites;
+      «time_maximum» = readAt bytes at bodyTime;
+      «minimum_high» = readAt bytes at bodyHigh;
+      «minimum_low» = readAt bytes at bodyLow;
     }
 
 -- the attributes whose numbers fit their widths: those of every record that code holds

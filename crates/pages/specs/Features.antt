@@ -1,24 +1,39 @@
 -- 01, "Commands": the data of feature 13h.
 use mathlib.Core.List.{List, [], _∷_}
 use Prim.Native.Nat.{ℕ, _^_, _<_}
-use Rattle.octets.specs.Pages.{Field, field, place}
+use Rattle.octets.specs.declared.Place.{Place}
+use Rattle.octets.specs.Pages.{Field, span, fieldsAt, readAt, place}
 use Rattle.record.specs.declared.Thresholds.{Thresholds}
 use Rattle.record.specs.declared.Config.{Config}
-use Rattle.record.specs.Events.{bitsOf, eventsIn}
-use Rattle.pages.specs.Numbers.{numberAt}
+use Rattle.record.specs.Event.{bitsOf, eventsIn}
 
 -- "512 data bytes"
 abbrev pub featureSize : ℕ
 featureSize = 512
 
--- "512 data bytes hold ENEV 1:0, reads threshold 39:32, writes 47:40, time 55:48"
+-- ---- where each number lies: "512 data bytes hold ENEV 1:0, reads threshold 39:32, writes 47:40, time 55:48"
+abbrev pub configEnabled : Place
+configEnabled = span 0 2
+
+abbrev pub configReads : Place
+configReads = span 32 8
+
+abbrev pub configWrites : Place
+configWrites = span 40 8
+
+abbrev pub configTime : Place
+configTime = span 48 8
+
+abbrev pub configPlaces : List Place
+configPlaces = configEnabled ∷ configReads ∷ configWrites ∷ configTime ∷ []
+
+-- ---- the page made, and read
+
+abbrev pub configValues : Config → List ℕ
+configValues c = bitsOf (c .enabled) ∷ c .thresholds .reads ∷ c .thresholds .writes ∷ c .thresholds .time ∷ []
+
 abbrev pub configFields : Config → List Field
-configFields c =
-    field 0 2 (bitsOf (c .enabled))
-    ∷ field 32 8 (c .thresholds .reads)
-    ∷ field 40 8 (c .thresholds .writes)
-    ∷ field 48 8 (c .thresholds .time)
-    ∷ []
+configFields c = fieldsAt configPlaces (configValues c)
 
 -- "the rest zero when returned"
 unfoldable pub configPage : Config → List ℕ
@@ -28,11 +43,11 @@ configPage c = place featureSize (configFields c)
 abbrev pub configIn : List ℕ → Config
 configIn bytes =
     record {
-      enabled = eventsIn (numberAt bytes 0 2);
+      enabled = eventsIn (readAt bytes 0 configEnabled);
       thresholds = record {
-        reads = numberAt bytes 32 8;
-        writes = numberAt bytes 40 8;
-        time = numberAt bytes 48 8;
+        reads = readAt bytes 0 configReads;
+        writes = readAt bytes 0 configWrites;
+        time = readAt bytes 0 configTime;
       };
     }
 

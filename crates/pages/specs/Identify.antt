@@ -6,8 +6,10 @@ use Prim.Native.Nat.{ℕ, _+_, _*_}
 use lib.Dec.{leb}
 use lib.ListN.{length}
 use Rattle.octets.specs.Choice.{if_then_else_}
-use Rattle.octets.specs.Pages.{Field, field, puts, place}
+use Rattle.octets.specs.declared.Place.{Place}
+use Rattle.octets.specs.Pages.{Field, span, fieldsAt, placesFrom, puts, place}
 use Rattle.record.specs.declared.Attributes.{Attributes}
+use Rattle.pages.specs.Capacities.{halves, halvesOf, namesOf}
 
 -- "Identify 04h, 4,096 bytes"
 abbrev pub identifySize : ℕ
@@ -38,19 +40,39 @@ shown from (a ∷ others) = shownIf (leb from (a .id .0)) a (shown from others)
 
 -- ---- the page
 
--- "Entry: 1:0 identifier, 3:2 group, 11:8 random read typical, 15:12 optimal write size, 31:16 total, 47:32 unallocated":
--- the entry that starts at a place. A capacity is two fields, its lower 64 bits first.
+-- where each number of an entry lies: "Entry: 1:0 identifier, 3:2 group, 11:8 random read typical, 15:12 optimal write size,
+-- 31:16 total, 47:32 unallocated"
+abbrev pub entryId : Place
+entryId = span 0 2
+
+abbrev pub entryGroup : Place
+entryGroup = span 2 2
+
+abbrev pub entryRandomRead : Place
+entryRandomRead = span 8 4
+
+abbrev pub entryOptimalWrite : Place
+entryOptimalWrite = span 12 4
+
+abbrev pub entryTotal : Place
+entryTotal = span 16 16
+
+abbrev pub entryUnallocated : Place
+entryUnallocated = span 32 16
+
+-- as they are put: four numbers, two capacities
+abbrev pub entryNames : List Place
+entryNames = entryId ∷ entryGroup ∷ entryRandomRead ∷ entryOptimalWrite ∷ []
+
+abbrev pub entryPlaces : List Place
+entryPlaces = entryNames ++ halves entryTotal ++ halves entryUnallocated
+
+abbrev pub entryValues : Attributes → List ℕ
+entryValues a = namesOf a ++ halvesOf (a .total) ++ halvesOf (a .unallocated)
+
+-- the entry that starts at a place
 abbrev pub entryFields : ℕ → Attributes → List Field
-entryFields to a =
-    field to 2 (a .id .0)
-    ∷ field (to + 2) 2 (a .group .0)
-    ∷ field (to + 8) 4 (a .«random_read_typical»)
-    ∷ field (to + 12) 4 (a .«optimal_write_size»)
-    ∷ field (to + 16) 8 (a .total .low)
-    ∷ field (to + 24) 8 (a .total .high)
-    ∷ field (to + 32) 8 (a .unallocated .low)
-    ∷ field (to + 40) 8 (a .unallocated .high)
-    ∷ []
+entryFields to a = fieldsAt (placesFrom to entryPlaces) (entryValues a)
 
 -- the entries of sets, packed from a place
 abbrev pub entriesAt : ℕ → List Attributes → List Field
@@ -58,8 +80,11 @@ entriesAt to [] = []
 entriesAt to (a ∷ others) = entryFields to a ++ entriesAt (to + entrySize) others
 
 -- "byte 0 count; entries of 128 bytes from byte 128"
+abbrev pub identifyCount : Place
+identifyCount = span 0 1
+
 abbrev pub identifyFields : List Attributes → List Field
-identifyFields sets = field 0 1 (length sets) ∷ entriesAt firstEntry sets
+identifyFields sets = fieldsAt (identifyCount ∷ []) (length sets ∷ []) ++ entriesAt firstEntry sets
 
 -- "rest zero"
 unfoldable pub identifyPage : ℕ → List Attributes → List ℕ

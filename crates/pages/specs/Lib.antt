@@ -1,4 +1,4 @@
-pub mod Numbers
+pub mod Capacities
 pub mod Bodies
 pub mod Features
 pub mod Latency

@@ -2,45 +2,59 @@
 ghost use mathlib.Core.Path.{_≡_};
 ghost use Prim.Native.Nat.{_+_, _≤_};
 ghost use lib.ListN.{length};
-ghost use Rattle.pages.specs.Bodies.{bodySize, body, capacityIn, attributesIn};
-use crate::filled::filled_84;
-use crate::read::short;
-use crate::read::word;
-use octets::words::word_at;
+ghost use Rattle.octets.specs.Pages.{fieldsAt, puts};
+ghost use Rattle.pages.specs.Capacities.{namesOf, limitsOf};
+ghost use Rattle.pages.specs.Bodies.{bodySize, bodyNames, bodyLimits, bodyFields, body, attributesIn};
+use crate::capacities::capacity_in;
+use crate::capacities::put_capacity;
+use octets::Place;
+use octets::numbers::short;
+use octets::numbers::word;
+use octets::numbers::word_in;
+use octets::put_at;
 use record::Attributes;
-use record::Capacity;
 use record::Group;
 use record::SetId;
 
 pub const BODY: usize = 84;
 
-fn capacity_in(bytes: &[u8], at: usize) -> Capacity
-    requires { ⌜ at + 16 ≤ length (now bytes) ⌝ }
-    ensures { λ r. ⌜ r ≡ capacityIn (now (bytes .entry)) at ⌝ }
-{
-    let low = word_at(bytes, at);
-    let high = word_at(bytes, at + 8);
-    Capacity {
-        low: low,
-        high: high,
-    }
-}
+const ID: Place = Place { at: 0, width: 2 };
+
+const GROUP: Place = Place { at: 2, width: 2 };
+
+const RANDOM_READ: Place = Place { at: 4, width: 4 };
+
+const OPTIMAL_WRITE: Place = Place { at: 8, width: 4 };
+
+const TOTAL: Place = Place { at: 12, width: 16 };
+
+const UNALLOCATED: Place = Place { at: 28, width: 16 };
+
+const READS: Place = Place { at: 44, width: 8 };
+
+const WRITES: Place = Place { at: 52, width: 8 };
+
+const TIME: Place = Place { at: 60, width: 8 };
+
+const HIGH: Place = Place { at: 68, width: 8 };
+
+const LOW: Place = Place { at: 76, width: 8 };
 
 pub fn attributes_in(bytes: &[u8], at: usize) -> Attributes
     requires { ⌜ at + bodySize ≤ length (now bytes) ⌝ }
     ensures { λ r. ⌜ r ≡ attributesIn (now (bytes .entry)) at ⌝ }
 {
-    let id = short(bytes, at);
-    let group = short(bytes, at + 2);
-    let random_read_typical = word(bytes, at + 4);
-    let optimal_write_size = word(bytes, at + 8);
-    let total = capacity_in(bytes, at + 12);
-    let unallocated = capacity_in(bytes, at + 28);
-    let reads_typical = word_at(bytes, at + 44);
-    let writes_typical = word_at(bytes, at + 52);
-    let time_maximum = word_at(bytes, at + 60);
-    let minimum_high = word_at(bytes, at + 68);
-    let minimum_low = word_at(bytes, at + 76);
+    let id = short(bytes, at + ID.at);
+    let group = short(bytes, at + GROUP.at);
+    let random_read_typical = word(bytes, at + RANDOM_READ.at);
+    let optimal_write_size = word(bytes, at + OPTIMAL_WRITE.at);
+    let total = capacity_in(bytes, at, TOTAL);
+    let unallocated = capacity_in(bytes, at, UNALLOCATED);
+    let reads_typical = word_in(bytes, at, READS);
+    let writes_typical = word_in(bytes, at, WRITES);
+    let time_maximum = word_in(bytes, at, TIME);
+    let minimum_high = word_in(bytes, at, HIGH);
+    let minimum_low = word_in(bytes, at, LOW);
     Attributes {
         id: SetId(id),
         group: Group(group),
@@ -56,23 +70,47 @@ pub fn attributes_in(bytes: &[u8], at: usize) -> Attributes
     }
 }
 
+fn put_names(page: &mut [u8], a: Attributes)
+    requires { ⌜ bodySize ≤ length (now page) ⌝ }
+    ensures { λ _. ⌜ now (page .exit) ≡ puts (now (page .entry)) (fieldsAt bodyNames (namesOf a)) ⌝ }
+{
+    let id = a.id.0 as u64;
+    let group = a.group.0 as u64;
+    let random_read = a.random_read_typical as u64;
+    let optimal_write = a.optimal_write_size as u64;
+    put_at(page, 0, ID, id);
+    put_at(page, 0, GROUP, group);
+    put_at(page, 0, RANDOM_READ, random_read);
+    put_at(page, 0, OPTIMAL_WRITE, optimal_write);
+}
+
+fn put_limits(page: &mut [u8], a: Attributes)
+    requires { ⌜ bodySize ≤ length (now page) ⌝ }
+    ensures { λ _. ⌜ now (page .exit) ≡ puts (now (page .entry)) (fieldsAt bodyLimits (limitsOf a)) ⌝ }
+{
+    put_at(page, 0, READS, a.reads_typical);
+    put_at(page, 0, WRITES, a.writes_typical);
+    put_at(page, 0, TIME, a.time_maximum);
+    put_at(page, 0, HIGH, a.minimum_high);
+    put_at(page, 0, LOW, a.minimum_low);
+}
+
+fn put_body(page: &mut [u8], a: Attributes)
+    requires { ⌜ bodySize ≤ length (now page) ⌝ }
+    ensures { λ _. ⌜ now (page .exit) ≡ puts (now (page .entry)) (bodyFields a) ⌝ }
+{
+    let total = a.total;
+    let unallocated = a.unallocated;
+    put_names(page, a);
+    put_capacity(page, 0, TOTAL, total);
+    put_capacity(page, 0, UNALLOCATED, unallocated);
+    put_limits(page, a);
+}
+
 pub fn body_of(a: Attributes) -> [u8; BODY]
     ensures { λ r. ⌜ r ≡ body a ⌝ }
 {
-    let rows = [
-        [0, 2, a.id.0 as u64],
-        [2, 2, a.group.0 as u64],
-        [4, 4, a.random_read_typical as u64],
-        [8, 4, a.optimal_write_size as u64],
-        [12, 8, a.total.low],
-        [20, 8, a.total.high],
-        [28, 8, a.unallocated.low],
-        [36, 8, a.unallocated.high],
-        [44, 8, a.reads_typical],
-        [52, 8, a.writes_typical],
-        [60, 8, a.time_maximum],
-        [68, 8, a.minimum_high],
-        [76, 8, a.minimum_low],
-    ];
-    filled_84(&rows)
+    let mut p = [0u8; BODY];
+    put_body(&mut p, a);
+    p
 }

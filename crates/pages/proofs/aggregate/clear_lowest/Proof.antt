@@ -1,3 +1,4 @@
+-- A word without its lowest one.
 use mathlib.Core.Path.{refl}
 use borrow.Author.Needs.{needs}
 use Rattle.pages.proofs.aggregate.clear_lowest.Statement.{statement}

@@ -1,3 +1,4 @@
+-- The loop that lists: what is left of the word is still to be listed.
 use mathlib.Core.Path.{refl, sym, _∙_}
 use native.Mathlib.Omega.{arith}
 use borrow.Author.Needs.{needs}

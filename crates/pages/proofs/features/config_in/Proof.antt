@@ -1,3 +1,4 @@
+-- The configuration read, number by number.
 use borrow.Author.Needs.{needs}
 use Rattle.pages.proofs.features.config_in.Statement.{statement}
 use Rattle.pages.proofs.features.config_in.Tie as tie

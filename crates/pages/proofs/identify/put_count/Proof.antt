@@ -1,3 +1,4 @@
+-- The count is the number of entries before the place.
 use borrow.Author.Needs.{needs}
 use Rattle.pages.proofs.identify.put_count.Statement.{statement}
 use Rattle.pages.proofs.identify.put_count.Tie as tie

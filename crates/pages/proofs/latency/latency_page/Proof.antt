@@ -1,5 +1,8 @@
+-- Fields put on a page of zeros.
+use mathlib.Core.Path.{_∙_}
 use borrow.Author.Needs.{needs}
-use Rattle.pages.specs.Latency.{latencyPage}
+use Rattle.octets.proofs.Pages.{placed}
+use Rattle.pages.specs.Latency.{latencySize, latencyPage}
 use Rattle.pages.proofs.latency.latency_page.Statement.{statement}
 use Rattle.pages.proofs.latency.latency_page.Tie as tie
 
@@ -8,12 +11,6 @@ unfolding latencyPage
 latency-page-spec =
     tie.close
     (tie.spec
-    (λ c κs. search needs)
-    (λ c κs. search needs)
-    (λ c κs. search needs)
-    (λ c κs. search needs)
-    (λ c κs. search needs)
-    (λ c κs. search needs)
     (λ c. search needs)
     (λ c κs. search needs)
-    (λ c. cc))
+    (λ c. c .before .put-latency .ensures ∙ placed latencySize _))
