@@ -6,7 +6,7 @@ use native.Mathlib.Omega.{arith}
 use lib.Dec.{ltb, leb, eqb}
 use borrow.Author.Tests.{leb-true, le-leb, lt-ltb, leb-false, ltb-false}
 use Rattle.octets.specs.Choice.{if_then_else_}
-use Rattle.octets.proofs.Tests.{and-left, and-right, both, together}
+use Rattle.octets.proofs.JoinedTests.{and-left, and-right, both, together}
 use Rattle.record.specs.declared.Attributes.{Attributes}
 use Rattle.record.specs.declared.Window.{Window}
 use Rattle.record.specs.declared.Window.the-variants.{Off, D, N}
@@ -17,12 +17,13 @@ use Rattle.record.specs.declared.Quantity.the-variants.{Reads, Writes, Time}
 use Rattle.record.specs.declared.Config.{Config}
 use Rattle.record.specs.declared.State.{State}
 use Rattle.record.specs.declared.Effect.{Effect}
-use Rattle.record.specs.Record.{limit, spent, need, afresh, spending}
-use Rattle.record.specs.Window.{byWindow, sameWindow}
+use Rattle.record.specs.Record.{afresh}
+use Rattle.record.specs.Quantities.{limit, spent, need, spending}
+use Rattle.record.specs.Windows.{byWindow, sameWindow}
 use Rattle.rules.specs.Changes.{movedBy}
 use Rattle.rules.specs.Rules.{still, configure, entered, selecting, causeOfMode, isOver, causeOver, carried, charge, readEvent, writeEvent, excursionEvent, tick, recovery, clearingRead}
 use Rattle.record.specs.Legal.{legalAttributes, noneSpent, withinLimits, legalState, legalNotes, KeepsState, KeepsRecord}
-use Rattle.record.proofs.Marks.{notes-kept}
+use Rattle.record.proofs.Settling.{notes-kept}
 
 -- of three tests that hold together
 three : (a b c : Bool) → a && b && c ≡ true → (a ≡ true) × (b ≡ true) × (c ≡ true)
@@ -79,7 +80,9 @@ by-window D a e f g p q r = q refl
 by-window N a e f g p q r = r refl
 
 pub excursion-keeps : KeepsState (λ a s. excursionEvent s)
-excursion-keeps a s h l = by-window (s .window) a _ _ _ l (λ e. anew a s (movedBy (s .window) Excursion) h) (λ e. l)
+excursion-keeps a s h l =
+    let w = movedBy (s .window) Excursion in
+    by-test (sameWindow w (s .window)) a (still s) _ (λ t. l) (λ t. anew a s w h)
 
 -- out of D by exceeded or time up: what is carried over is at most the need
 left-d : (q : Quantity) (a : Attributes) (s : State) (n : ℕ) (w : Window) → w ≡ D → legalState a (afresh s (movedBy w (causeOver q)) (carried q a n)) ≡ true

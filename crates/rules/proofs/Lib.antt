@@ -1,3 +1,4 @@
+pub mod OffRefuses
 pub mod Over
 pub mod Keeps
 pub mod Staying

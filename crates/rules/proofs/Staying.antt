@@ -11,9 +11,12 @@ use Rattle.record.specs.declared.Attributes.{Attributes}
 use Rattle.record.specs.declared.Config.{Config}
 use Rattle.record.specs.declared.State.{State}
 use Rattle.record.specs.declared.Effect.{Effect}
-use Rattle.record.specs.Record.{limit, spent, spending}
-use Rattle.record.specs.Window.{byWindow}
-use Rattle.rules.specs.Rules.{isOver, charge, readEvent, writeEvent, excursionEvent, tick}
+use Rattle.record.specs.Quantities.{limit, spent, spending}
+use Rattle.record.specs.Windows.{byWindow, sameWindow}
+use Rattle.rules.specs.declared.Cause.{Cause}
+use Rattle.rules.specs.declared.Cause.the-variants.{Excursion}
+use Rattle.rules.specs.Changes.{movedBy}
+use Rattle.rules.specs.Rules.{isOver, charge, readEvent, writeEvent, excursionEvent, tick, selecting, clearingRead}
 
 -- a rule whose effects leave the configuration
 abbrev pub KeepsConfig : (Attributes → State → Effect) → Type 0
@@ -44,7 +47,13 @@ pub write-stays : (k : ℕ) → KeepsConfig (writeEvent k)
 write-stays k a s = by-window (s .config) (s .window) _ _ _ refl (charge-stays Writes k a s) refl
 
 pub excursion-stays : KeepsConfig (λ a s. excursionEvent s)
-excursion-stays a s = by-window (s .config) (s .window) _ _ _ refl refl refl
+excursion-stays a s = by-test (s .config) (sameWindow (movedBy (s .window) Excursion) (s .window)) _ _ refl refl
 
 pub tick-stays : (t : ℕ) → KeepsConfig (tick t)
 tick-stays t a s = by-window (s .config) (s .window) _ _ _ refl (charge-stays Time t a s) refl
+
+pub select-stays : (c : Cause) → KeepsConfig (selecting c)
+select-stays c a s = by-test (s .config) (sameWindow (movedBy (s .window) c) (s .window)) _ _ refl refl
+
+pub clearing-stays : KeepsConfig (λ a s. clearingRead s)
+clearing-stays a s = refl

@@ -11,8 +11,8 @@ use Rattle.record.specs.declared.Quantity.the-variants.{Reads, Writes, Time}
 use Rattle.record.specs.declared.Config.{Config}
 use Rattle.record.specs.declared.State.{State}
 use Rattle.record.specs.declared.Effect.{Effect}
-use Rattle.record.specs.Record.{limit, spent, threshold, enables}
-use Rattle.record.specs.Events.{leftOf, warning, warns, startsBelow, andExceeded}
+use Rattle.record.specs.Quantities.{limit, spent, threshold, enables}
+use Rattle.record.specs.Event.{leftOf, warning, warns, startsBelow, andExceeded}
 use Rattle.rules.specs.Rules.{isOver, charge}
 
 module _ (q : Quantity) (a : Attributes) (c : Config) where

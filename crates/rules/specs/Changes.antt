@@ -1,11 +1,12 @@
 -- 01, "Window changes": "Kept as one constant table, three windows by seven causes".
+use mathlib.Core.Path.{_≡_}
 use Prim.Native.Nat.{ℕ}
 use mathlib.Core.Bool.{Bool, true, false}
 use mathlib.Core.List.{List, [], _∷_}
 use lib.ListN.{getD}
 use Rattle.record.specs.declared.Window.{Window}
 use Rattle.record.specs.declared.Window.the-variants.{Off, D, N}
-use Rattle.record.specs.Window.{windowNo}
+use Rattle.record.specs.Windows.{byWindow, windowNo}
 use Rattle.rules.specs.declared.Cause.{Cause}
 use Rattle.rules.specs.declared.Cause.the-variants.{Enable, Disable, SelectD, SelectN, Excursion, Exceeded, TimeUp}
 use Rattle.rules.specs.declared.Next.{Next}
@@ -53,3 +54,7 @@ isRefuse ToN = false
 
 abbrev pub refusedBy : Window → Cause → Bool
 refusedBy w c = isRefuse (next w c)
+
+-- "14h while off": both selects are refused while a set is off, and in no other window
+abbrev pub OffRefuses : Type 0
+OffRefuses = (w : Window) → (refusedBy w SelectD ≡ byWindow w true false false) × (refusedBy w SelectN ≡ byWindow w true false false)

@@ -3,25 +3,24 @@ use Prim.Native.Nat.{ℕ, _+_, _-_, min}
 use mathlib.Core.Bool.{Bool, true, false, not, _&&_}
 use lib.Dec.{ltb, leb, eqb}
 use Rattle.octets.specs.Choice.{if_then_else_}
-use Rattle.replies.specs.Numbers as numbers
 use Rattle.record.specs.declared.Attributes.{Attributes}
 use Rattle.record.specs.declared.Window.{Window}
 use Rattle.record.specs.declared.Window.the-variants.{D, N}
 use Rattle.rules.specs.declared.Cause.{Cause}
-use Rattle.rules.specs.declared.Cause.the-variants.{Enable, Disable, Excursion, Exceeded, TimeUp}
+use Rattle.rules.specs.declared.Cause.the-variants as cause
+use Rattle.rules.specs.declared.Cause.the-variants.{Enable, Disable, Exceeded, TimeUp}
+use Rattle.rules.specs.declared.Media.{Media}
+use Rattle.rules.specs.declared.Media.the-variants as media
 use Rattle.record.specs.declared.Quantity.{Quantity}
 use Rattle.record.specs.declared.Quantity.the-variants.{Reads, Writes, Time}
 use Rattle.record.specs.declared.Config.{Config}
 use Rattle.record.specs.declared.State.{State}
 use Rattle.record.specs.declared.Effect.{Effect}
-use Rattle.rules.specs.declared.Refusal.{Refusal}
-use Rattle.rules.specs.declared.Refusal.the-variants.{WhileOff, TooEarly}
-use Rattle.rules.specs.declared.Selected.{Selected}
-use Rattle.rules.specs.declared.Selected.the-variants.{Done, Refused}
-use Rattle.record.specs.Record.{limit, spent, need, afresh, spending, recovering, configured, effectOf}
-use Rattle.record.specs.Window.{byWindow, sameWindow}
-use Rattle.rules.specs.Changes.{movedBy, refusedBy}
-use Rattle.record.specs.Events.{leftOf, noEvents, warning, warns, enteringD, andExceeded, anExcursion}
+use Rattle.record.specs.Record.{afresh, recovering, configured, effectOf}
+use Rattle.record.specs.Quantities.{limit, spent, need, spending}
+use Rattle.record.specs.Windows.{byWindow, sameWindow}
+use Rattle.rules.specs.Changes.{movedBy}
+use Rattle.record.specs.Event.{leftOf, noEvents, warning, warns, enteringD, andExceeded, anExcursion}
 use Rattle.record.specs.declared.Events.{Events}
 
 -- an item that does no clearing read
@@ -63,18 +62,6 @@ abbrev pub selecting : Cause → Attributes → State → Effect
 selecting c a s =
     if sameWindow (movedBy (s .window) c) (s .window) then still s else entered (movedBy (s .window) c) a s
 
--- what a select answers; "refuse" of the table is 14h while off
-abbrev pub select : Cause → Attributes → State → Selected
-select c a s =
-    if refusedBy (s .window) c then Refused WhileOff
-    else if tooEarly c a s then Refused TooEarly
-    else Done (selecting c a s)
-
--- the paper's number for each refusal
-abbrev pub refusalNo : Refusal → ℕ
-refusalNo WhileOff = numbers.invalidField
-refusalNo TooEarly = numbers.tooEarly
-
 -- ---- reads, writes, excursions and ticks
 
 -- "It leaves D if the new count is greater than typical." "In D, time up is when the sum is at or past maximum."
@@ -113,9 +100,17 @@ readEvent k a s = onlyInD s (charge Reads k a s)
 abbrev pub writeEvent : ℕ → Attributes → State → Effect
 writeEvent k a s = onlyInD s (charge Writes k a s)
 
--- "An excursion counts only in D."
+-- "An excursion counts only in D": elsewhere its entry leads to the window that the set is in.
 abbrev pub excursionEvent : State → Effect
-excursionEvent s = onlyInD s (noting (afresh s (movedBy (s .window) Excursion) 0) anExcursion)
+excursionEvent s =
+    if sameWindow (movedBy (s .window) cause.Excursion) (s .window) then still s
+    else noting (afresh s (movedBy (s .window) cause.Excursion) 0) anExcursion
+
+-- what the media layer reports of a set
+abbrev pub mediaRule : Media → Attributes → State → Effect
+mediaRule (media.Reads k) a s = readEvent k a s
+mediaRule (media.Writes k) a s = writeEvent k a s
+mediaRule media.Excursion a s = excursionEvent s
 
 -- "N time stops at high."
 abbrev pub recovery : ℕ → Attributes → State → Effect

@@ -1,13 +1,12 @@
 // What each item does to one set. A rule sees attributes and state, never events or the listed mark, and answers an effect.
-mod windows;
+pub mod changes;
 
 ghost use mathlib.Core.Path.{_≡_};
 ghost use Prim.Native.Nat.{_+_};
 ghost use Rattle.record.specs.declared.Window.{Window};
 ghost use Rattle.record.specs.Record.{afresh, effectOf};
-ghost use Rattle.rules.specs.Rules.{still, onlyInD, causeOfMode, configure, tooEarly, entered, selecting, select, refusalNo, isOver, causeOver, carried, leaving, charge, readEvent, writeEvent, excursionEvent, recovery, tick, clearingRead};
-use crate::windows::moved;
-use crate::windows::refuses;
+ghost use Rattle.rules.specs.Rules.{still, onlyInD, causeOfMode, configure, tooEarly, entered, selecting, isOver, causeOver, carried, leaving, charge, readEvent, writeEvent, excursionEvent, mediaRule, recovery, tick, clearingRead};
+use crate::changes::moved;
 use record::Attributes;
 use record::Config;
 use record::Effect;
@@ -15,12 +14,12 @@ use record::Events;
 use record::Quantity;
 use record::State;
 use record::Window;
-use record::notices::an_excursion;
-use record::notices::and_exceeded;
-use record::notices::entering_d;
-use record::notices::no_events;
-use record::notices::warned;
-use record::notices::warning_of;
+use record::event::an_excursion;
+use record::event::and_exceeded;
+use record::event::entering_d;
+use record::event::no_events;
+use record::event::warned;
+use record::event::warning_of;
 use record::quantities::capped;
 use record::quantities::floored;
 use record::quantities::limit_of;
@@ -51,15 +50,11 @@ pub enum Next {
     ToN,
 }
 
-// Why a rule refuses.
-pub enum Refusal {
-    WhileOff,
-    TooEarly,
-}
-
-pub enum Selected {
-    Done(Effect),
-    Refused(Refusal),
+// What the media layer reports of a set.
+pub enum Media {
+    Reads(u16),
+    Writes(u16),
+    Excursion,
 }
 
 fn effect_of(state: State, happened: Events, clears: bool) -> Effect
@@ -103,20 +98,24 @@ fn cause_of_mode(on: bool) -> Cause
 pub fn set_mode(s: State, on: bool, c: Config) -> Effect
     ensures { λ r. ⌜ r ≡ configure on c s ⌝ }
 {
-    let held = s.window;
-    let mut t = started(s, moved(held, cause_of_mode(on)), 0);
+    let w = s.window;
+    let mut t = started(s, moved(w, cause_of_mode(on)), 0);
     t.config = c;
     keep_still(t)
 }
 
+// Where the need is met the table is not asked.
 pub fn too_early(a: Attributes, s: State, c: Cause) -> bool
     ensures { λ r. ⌜ r ≡ tooEarly c a s ⌝ }
 {
-    let held = s.window;
-    let from_n = same_window(held, Window::N);
-    let to_d = same_window(moved(held, c), Window::D);
     let need = need_of(a);
-    from_n & to_d & (s.n_time != need)
+    if s.n_time == need {
+        return false;
+    }
+    let w = s.window;
+    let from_n = same_window(w, Window::N);
+    let to_d = same_window(moved(w, c), Window::D);
+    from_n & to_d
 }
 
 // Into another window, with the events of entering it.
@@ -135,46 +134,12 @@ fn enter(a: Attributes, s: State, w: Window) -> Effect
 pub fn go_to_selected(a: Attributes, s: State, c: Cause) -> Effect
     ensures { λ r. ⌜ r ≡ selecting c a s ⌝ }
 {
-    let held = s.window;
-    let w = moved(held, c);
-    if same_window(w, held) {
+    let w = s.window;
+    let next = moved(w, c);
+    if same_window(next, w) {
         keep_still(s)
     } else {
-        enter(a, s, w)
-    }
-}
-
-fn select_by(a: Attributes, s: State, c: Cause) -> Selected
-    ensures { λ r. ⌜ r ≡ select c a s ⌝ }
-{
-    let held = s.window;
-    if refuses(held, c) {
-        return Selected::Refused(Refusal::WhileOff);
-    }
-    if too_early(a, s, c) {
-        return Selected::Refused(Refusal::TooEarly);
-    }
-    Selected::Done(go_to_selected(a, s, c))
-}
-
-pub fn select_d(a: Attributes, s: State) -> Selected
-    ensures { λ r. ⌜ r ≡ select Cause.SelectD a s ⌝ }
-{
-    select_by(a, s, Cause::SelectD)
-}
-
-pub fn select_n(a: Attributes, s: State) -> Selected
-    ensures { λ r. ⌜ r ≡ select Cause.SelectN a s ⌝ }
-{
-    select_by(a, s, Cause::SelectN)
-}
-
-pub fn refusal_no(r: Refusal) -> u16
-    ensures { λ n. ⌜ n ≡ refusalNo r ⌝ }
-{
-    match r {
-        Refusal::WhileOff => 0x0002,
-        Refusal::TooEarly => 0x07C1,
+        enter(a, s, next)
     }
 }
 
@@ -270,14 +235,21 @@ pub fn excursion_event(s: State) -> Effect
     ensures { λ r. ⌜ r ≡ excursionEvent s ⌝ }
 {
     let w = s.window;
-    match w {
-        Window::Off => keep_still(s),
-        Window::D => effect_of(
-            started(s, moved(w, Cause::Excursion), 0),
-            an_excursion(),
-            false,
-        ),
-        Window::N => keep_still(s),
+    let next = moved(w, Cause::Excursion);
+    if same_window(next, w) {
+        keep_still(s)
+    } else {
+        effect_of(started(s, next, 0), an_excursion(), false)
+    }
+}
+
+pub fn media_event(a: Attributes, s: State, m: Media) -> Effect
+    ensures { λ r. ⌜ r ≡ mediaRule m a s ⌝ }
+{
+    match m {
+        Media::Reads(k) => read_event(a, s, k),
+        Media::Writes(k) => write_event(a, s, k),
+        Media::Excursion => excursion_event(s),
     }
 }
 

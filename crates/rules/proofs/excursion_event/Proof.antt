@@ -1,3 +1,4 @@
+use mathlib.Core.Path.{sym, _∙_}
 use borrow.Author.Needs.{needs}
 use Rattle.rules.proofs.excursion_event.Statement.{statement}
 use Rattle.rules.proofs.excursion_event.Tie as tie
@@ -6,15 +7,18 @@ pub excursion-event-spec : {M : Type 1} → statement M
 excursion-event-spec =
     tie.close
     (tie.spec
-    (λ c. search needs)
-    (λ c κs. search needs)
-    (λ c. search needs)
     (λ c κs. search needs)
     (λ c κs. search needs)
     (λ c κs. search needs)
     (λ c κs. search needs)
-    (λ c. search needs)
     (λ c κs. search needs)
-    (λ c. simp (c .keep-still .ensures, c .before .enum-told .given .1))
-    (λ c. simp (c .effect-of .ensures, c .before .an-excursion .ensures, c .before .before .started .ensures, c .before .before .before .moved .ensures, c .before .before .before .before .enum-told2 .given .1))
-    (λ c. simp (c .keep-still2 .ensures, c .before .enum-told3 .given .1)))
+    (λ c κs. search needs)
+    (λ c.
+    let t = c .before in
+    let e = rw (t .before .before .moved .ensures) at (sym (t .before .same-window .ensures) ∙ t .if1 .taken) in
+    simp (c .keep-still .ensures, e))
+    (λ c.
+    let t = c .before .before .before in
+    let m = t .before .before .moved .ensures in
+    let e = rw m at (sym (t .before .same-window .ensures) ∙ t .if1 .left) in
+    simp (c .effect-of .ensures, c .before .an-excursion .ensures, c .before .before .started .ensures, e, m)))

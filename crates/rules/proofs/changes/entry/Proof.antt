@@ -1,6 +1,6 @@
 use borrow.Author.Needs.{needs}
-use Rattle.rules.proofs.windows.entry.Statement.{statement}
-use Rattle.rules.proofs.windows.entry.Tie as tie
+use Rattle.rules.proofs.changes.entry.Statement.{statement}
+use Rattle.rules.proofs.changes.entry.Tie as tie
 
 pub entry-spec : {M : Type 1} → statement M
 entry-spec =

@@ -1,8 +1,8 @@
 use mathlib.Core.Path.{sym, ap, _∙_}
 use borrow.Author.Needs.{needs}
 use Rattle.rules.specs.Changes.{movedTo}
-use Rattle.rules.proofs.windows.moved.Statement.{statement}
-use Rattle.rules.proofs.windows.moved.Tie as tie
+use Rattle.rules.proofs.changes.moved.Statement.{statement}
+use Rattle.rules.proofs.changes.moved.Tie as tie
 
 pub moved-spec : {M : Type 1} → statement M
 moved-spec =

@@ -1,8 +1,8 @@
 use mathlib.Core.Path.{sym, ap, _∙_}
 use borrow.Author.Needs.{needs}
 use Rattle.rules.specs.Changes.{isRefuse}
-use Rattle.rules.proofs.windows.refuses.Statement.{statement}
-use Rattle.rules.proofs.windows.refuses.Tie as tie
+use Rattle.rules.proofs.changes.refuses.Statement.{statement}
+use Rattle.rules.proofs.changes.refuses.Tie as tie
 
 pub refuses-spec : {M : Type 1} → statement M
 refuses-spec =
