@@ -1,29 +1,13 @@
 // Media events and ticks on one record.
 ghost use mathlib.Core.Path.{_≡_};
-ghost use Rattle.record.specs.Events.{settled};
-ghost use Rattle.steps.specs.Media.{mediaRule, tickOne};
-use record::Attributes;
-use record::Effect;
+ghost use Rattle.record.specs.Event.{settled};
+ghost use Rattle.rules.specs.Rules.{mediaRule};
+ghost use Rattle.by_value.specs.Ticks.{tickOne};
 use record::Record;
-use record::State;
-use record::notices::settle;
-use rules::excursion_event;
-use rules::read_event;
+use record::event::settle;
+use rules::Media;
+use rules::media_event;
 use rules::tick_event;
-use rules::write_event;
-use steps::Media;
-
-pub const DAY_MS: u32 = 86400000;
-
-fn effect_of(a: Attributes, s: State, m: Media) -> Effect
-    ensures { λ r. ⌜ r ≡ mediaRule m a s ⌝ }
-{
-    match m {
-        Media::Reads(k) => read_event(a, s, k),
-        Media::Writes(k) => write_event(a, s, k),
-        Media::Excursion => excursion_event(s),
-    }
-}
 
 // The record after an event.
 pub fn after_event(r: Record, m: Media) -> Record
@@ -31,7 +15,7 @@ pub fn after_event(r: Record, m: Media) -> Record
 {
     let a = r.attributes;
     let s = r.state;
-    let e = effect_of(a, s, m);
+    let e = media_event(a, s, m);
     settle(r, e)
 }
 

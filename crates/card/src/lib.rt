@@ -1,5 +1,5 @@
 // The card on a lent table of words: set-up, media events, ticks and commands.
-pub mod answering;
+pub mod commanded;
 pub mod media;
-pub mod setting;
+pub mod set_up;
 mod views;

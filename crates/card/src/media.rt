@@ -4,18 +4,22 @@ ghost use mathlib.Core.List.{[], map};
 ghost use lib.ListN.{length};
 ghost use Rattle.rules.specs.Rules.{tick};
 ghost use Rattle.table.specs.Table.{count, Legal, recordsOf, writtenRows};
-ghost use Rattle.steps.specs.Items.{Item};
-ghost use Rattle.steps.specs.Media.{itemOf, tickOne};
+ghost use Rattle.steps.specs.Items.{Item, itemOf};
+ghost use Rattle.by_value.specs.Ticks.{tickOne};
 ghost use Rattle.steps.specs.Words.{Answered};
-use by_value::answering::done;
-use by_value::answering::refuse;
-use by_value::media::DAY_MS;
+use by_value::entry::entry_no;
 use by_value::media::after_event;
 use by_value::media::after_tick;
 use record::SetId;
 use record::Slot;
+use record::legal::DAY_MS;
 use replies::Reply;
-use steps::Media;
+use replies::done;
+use replies::numbers::BAD_TABLE;
+use replies::numbers::TICK_TOO_LONG;
+use replies::numbers::UNKNOWN_SET;
+use replies::refuse;
+use rules::Media;
 use table::Entry;
 use table::enter;
 use table::legal;
@@ -27,8 +31,8 @@ pub fn event(table: &mut [u64], id: SetId, m: Media) -> Reply
 {
     let e = enter(table, id);
     match e {
-        Entry::Bad => refuse(0x07C3),
-        Entry::Unknown => refuse(0x07C0),
+        Entry::Bad => refuse(entry_no(UNKNOWN_SET, e)),
+        Entry::Unknown => refuse(entry_no(UNKNOWN_SET, e)),
         Entry::Here(slot) => {
             let r = load(table, slot);
             store(table, slot, after_event(r, m));
@@ -72,13 +76,13 @@ pub fn ticks(table: &mut [u64], t: u32, answer: &mut [u8]) -> Reply
     ensures { λ r. ⌜ Answered (now (table .entry)) (Item.tick t (length (now (answer .entry)))) (now (answer .entry)) r (now (table .exit)) (now (answer .exit)) ⌝ }
 {
     if legal(table) {
-        if DAY_MS < t {
-            return refuse(0x07C5);
+        if DAY_MS < (t as u64) {
+            return refuse(TICK_TOO_LONG);
         }
         let n = table::count_of(table);
         tick_all(table, n, t);
         done()
     } else {
-        refuse(0x07C3)
+        refuse(BAD_TABLE)
     }
 }

@@ -2,22 +2,27 @@
 ghost use mathlib.Core.Path.{_≡_};
 ghost use Prim.Native.Nat.{_+_, _*_, _≤_};
 ghost use lib.ListN.{length};
+ghost use lib.Seq.{sets};
 ghost use Rattle.table.specs.Layout.{recordOf};
 ghost use Rattle.table.specs.Table.{count, rowStart, row, recordsOf, Legal};
 ghost use Rattle.pages.specs.Aggregate.{aggregatePage};
-ghost use Rattle.pages.specs.Identify.{firstEntry, entrySize, identifyPage, Shows};
+ghost use Rattle.pages.specs.Identify.{firstEntry, entrySize, identifySize, identifyPage, Shows};
 ghost use Rattle.steps.specs.Commanded.{listedIds};
-ghost use Rattle.steps.specs.Views.{attributesOf, ShowsAll};
+ghost use Rattle.by_value.specs.Views.{attributesOf, ShowsAll};
+use pages::aggregate::AGGREGATE_SIZE;
 use pages::aggregate::aggregate_page;
+use pages::identify::FIRST_ENTRY;
+use pages::identify::IDENTIFY_SIZE;
 use pages::identify::put_count;
 use pages::identify::show;
+use record::SetId;
 use record::Slot;
 use table::count_of;
 use table::identifiers;
 use table::listed_word;
 use table::load;
 
-pub(crate) fn aggregate_of(table: &[u64]) -> [u8; 72]
+pub(crate) fn aggregate_of(table: &[u64]) -> [u8; AGGREGATE_SIZE]
     requires { ⌜ Legal (now table) ⌝ }
     ensures { λ p. ⌜ p ≡ aggregatePage (listedIds (recordsOf (now (table .entry)))) ⌝ }
 {
@@ -28,35 +33,34 @@ pub(crate) fn aggregate_of(table: &[u64]) -> [u8; 72]
 }
 
 // The set of one slot, if it is to be shown; the answer is the next place.
-fn show_slot(page: &mut [u8], to: usize, table: &[u64], i: usize, from: u16) -> usize
-    requires { ⌜ (to + entrySize ≤ length (now page)) × (rowStart (i + 1) ≤ length (now table)) ⌝ }
-    ensures { λ r. ⌜ Shows from (recordOf (row (now (table .entry)) i) .attributes) (now (page .entry)) to (now (page .exit)) r ⌝ }
+fn show_slot(page: &mut [u8], to: usize, table: &[u64], slot: Slot, from: SetId) -> usize
+    requires { ⌜ (to + entrySize ≤ length (now page)) × (rowStart (slot .0 + 1) ≤ length (now table)) ⌝ }
+    ensures { λ r. ⌜ Shows (from .0) (recordOf (row (now (table .entry)) (slot .0)) .attributes) (now (page .entry)) to (now (page .exit)) r ⌝ }
 {
-    let r = load(table, Slot(i));
+    let r = load(table, slot);
     let a = r.attributes;
     show(page, to, a, from)
 }
 
-fn show_all(page: &mut [u8], table: &[u64], from: u16) -> usize
+fn show_all(page: &mut [u8], table: &[u64], from: SetId) -> usize
     requires { ⌜ Legal (now table) × (firstEntry + entrySize * count (now table) ≤ length (now page)) ⌝ }
-    ensures { λ r. ⌜ ShowsAll from (attributesOf (recordsOf (now (table .entry)))) (now (page .entry)) (now (page .exit)) r ⌝ }
+    ensures { λ r. ⌜ ShowsAll (from .0) (attributesOf (recordsOf (now (table .entry)))) (now (page .entry)) (now (page .exit)) r ⌝ }
 {
     let n = count_of(table);
-    let mut to = 128;
+    let mut to = FIRST_ENTRY;
     let mut i = 0;
     while i < n {
-        to = show_slot(page, to, table, i, from);
+        to = show_slot(page, to, table, Slot(i), from);
         i += 1;
     }
     to
 }
 
-pub(crate) fn set_list_of(table: &[u64], from: u16) -> [u8; 4096]
-    requires { ⌜ Legal (now table) ⌝ }
-    ensures { λ p. ⌜ p ≡ identifyPage from (attributesOf (recordsOf (now (table .entry)))) ⌝ }
+pub(crate) fn set_list_onto(table: &[u64], from: SetId, answer: &mut [u8])
+    requires { ⌜ Legal (now table) × (identifySize ≤ length (now answer)) ⌝ }
+    ensures { λ _. ⌜ now (answer .exit) ≡ sets (now (answer .entry)) 0 (identifyPage (from .0) (attributesOf (recordsOf (now (table .entry))))) ⌝ }
 {
-    let mut p = [0u8; 4096];
-    let end = show_all(&mut p, table, from);
-    put_count(&mut p, end);
-    p
+    octets::clear(answer, IDENTIFY_SIZE);
+    let end = show_all(answer, table, from);
+    put_count(answer, end);
 }

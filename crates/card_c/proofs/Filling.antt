@@ -8,7 +8,7 @@ use native.Mathlib.Numerals.{add-one}
 use lib.ListN.{length}
 use Rattle.octets.specs.Octets.{AllBytes}
 use Rattle.octets.specs.Words.{wordSize, putWords}
-use Rattle.octets.proofs.Passed.{length-put-words}
+use Rattle.octets.proofs.WordBytes.{length-put-words}
 use Rattle.octets.proofs.InPlace.{put-bytes}
 use Rattle.record.specs.declared.Attributes.{Attributes}
 use Rattle.record.specs.declared.Record.{Record}
@@ -18,10 +18,11 @@ use Rattle.table.specs.Table.{rowStart}
 use Rattle.table.proofs.Records.{length-words}
 use Rattle.pages.specs.Bodies.{bodySize, attributesIn}
 use Rattle.steps.specs.SetUp.{newRecord, attributesFrom, bodies, newSets, newCard, setUpStatus, newTable, SetUp}
-use Rattle.steps.proofs.NewSets.{bodies-none, bodies-more, well, set-up-refused, set-up-done, new-length, new-header}
+use Rattle.steps.proofs.NewSets.{well, new-length, new-header}
+use Rattle.by_value.proofs.Bodies.{bodies-none, bodies-more, set-up-refused, set-up-done}
 use Rattle.region.specs.Region.{tableIn, tableOut, withRecord, withRecords}
 use Rattle.region.proofs.Words.{row-out, length-in, own-region}
-use Rattle.region.proofs.Rows.{card-out}
+use Rattle.region.proofs.EveryRow.{card-out}
 use Rattle.card_c.specs.Entries.{SetUpAtC}
 
 pub record Filling (bytes b₀ : List ℕ) (n : ℕ) (b : List ℕ) (at i : ℕ) : Type 0 where

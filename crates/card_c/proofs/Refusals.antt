@@ -5,7 +5,7 @@ use mathlib.Core.List.{List}
 use Prim.Native.Nat.{ℕ}
 use native.Mathlib.Omega.{arith}
 use lib.ListN.{length}
-use Rattle.record.specs.Events.{bit}
+use Rattle.record.specs.Event.{bit}
 use Rattle.steps.specs.Items.{Item}
 use Rattle.steps.specs.Rows.{carriedOut}
 use Rattle.steps.specs.Words.{Result, stepWords}

@@ -11,22 +11,27 @@ use Rattle.replies.specs.declared.Reply.{Reply}
 use Rattle.record.specs.declared.Attributes.{Attributes}
 use Rattle.record.specs.declared.State.{State}
 use Rattle.record.specs.declared.Effect.{Effect}
+use Rattle.record.specs.declared.Notes.{Notes}
 use Rattle.record.specs.declared.Record.{Record}
 use Rattle.record.specs.declared.Slot.{Slot}
-use Rattle.record.specs.Events.{settled, isSilent}
-use Rattle.record.proofs.Marks.{silent-notes}
+use Rattle.record.specs.Event.{settled, isSilent}
+use Rattle.record.proofs.Settling.{silent-notes}
+use Rattle.rules.specs.Rules.{still}
 use Rattle.rules.proofs.Staying.{KeepsConfig}
 use Rattle.table.specs.declared.Entry.{Entry}
 use Rattle.table.specs.declared.Entry.the-variants.{Here}
-use Rattle.table.specs.Table.{enterIn}
-use Rattle.table.proofs.Known.{legal-known, slot-legal, is-here}
-use Rattle.region.specs.Region.{tableIn, tableOut, recordAt, LegalAt, Moved, Silent}
+use Rattle.table.specs.Layout.{wordsOf}
+use Rattle.table.specs.Table.{row, put, enterIn}
+use Rattle.table.proofs.Records.{row-of}
+use Rattle.table.proofs.Written.{put-own}
+use Rattle.table.proofs.LegalTables.{legal-known, slot-legal, is-here}
+use Rattle.region.specs.Region.{tableIn, tableOut, recordAt, withRecord, LegalAt, Moved, Silent}
 use Rattle.region.proofs.Words.{length-in, own-region}
 use Rattle.commands.specs.declared.Command.{Command}
 use Rattle.commands.specs.declared.Kind.{Kind}
 use Rattle.steps.specs.Items.{Item}
 use Rattle.steps.specs.Words.{Answered}
-use Rattle.steps.specs.OnSet.{tableOn, OnSet}
+use Rattle.by_value.specs.OnSet.{tableOn, OnSet}
 use Rattle.steps.proofs.Frame.{here}
 use Rattle.card_c.specs.Entries.{replyPart, AnsweredAtC}
 use Rattle.card_c.specs.InPlace.{ruledBy, AnswerAtC, OnSetAtC}
@@ -47,6 +52,19 @@ module _ (rule : Attributes → State → Effect) (r₀ r : Record) (e : Effect)
 
   pub is-ruled : settled r e ≡ ruledBy rule r₀
   is-ruled = rw (ee, er)
+
+-- a record that nothing changes, and that is not stored
+
+still-same : (r : Record) → settled r (still (r .state)) ≡ r
+still-same r = ap (λ (n : Notes). record { attributes = r .attributes; state = r .state; notes = n }) (silent-notes r (still (r .state)) refl)
+
+pub not-stored :
+    (region : List ℕ) (slot : ℕ) (r : Record) → LegalAt region slot → AllBytes region → r ≡ recordAt region slot
+    → region ≡ withRecord region slot (settled r (still (r .state)))
+not-stored region slot r l each e =
+    let ws = tableIn region in
+    let p : put ws slot (wordsOf (recordAt region slot)) ≡ ws = put-own ws slot (omega (arith, l .room, length-in region)) (row-of (row ws slot) (l .legal)) in
+    sym (ap (withRecord region slot) (still-same r ∙ e) ∙ ap (tableOut region) p ∙ own-region region each)
 
 -- ---- from the words to the region
 

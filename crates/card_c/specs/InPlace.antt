@@ -9,11 +9,11 @@ use Rattle.record.specs.declared.Attributes.{Attributes}
 use Rattle.record.specs.declared.State.{State}
 use Rattle.record.specs.declared.Effect.{Effect}
 use Rattle.record.specs.declared.Record.{Record}
-use Rattle.record.specs.Events.{settled}
+use Rattle.record.specs.Event.{settled}
 use Rattle.region.specs.Region.{tableIn, tableOut, recordAt, withRecord}
 use Rattle.commands.specs.declared.Command.{Command}
 use Rattle.commands.specs.declared.Kind.{Kind}
-use Rattle.steps.specs.OnSet.{answerOn, tableOn}
+use Rattle.by_value.specs.OnSet.{answerOn, tableOn}
 use Rattle.steps.specs.Items.{Item}
 use Rattle.steps.specs.Words.{stepWords}
 

@@ -1,8 +1,8 @@
 // The card for C: functions on numbers and byte slices, each slice a pointer and a length. include/card.h describes them.
-mod answering;
+mod commanded;
 mod media;
 mod reply;
-mod setting;
+mod set_up;
 mod views;
 
 ghost use mathlib.Core.List.{[]};
@@ -12,8 +12,8 @@ ghost use Rattle.card_c.specs.Entries.{SetUpAtC, AnsweredAtC};
 use crate::media::event;
 use crate::media::ticks;
 use crate::reply::put_reply;
-use crate::setting::set_up;
-use steps::Media;
+use crate::set_up::set_up;
+use rules::Media;
 
 #[no_mangle]
 pub extern "C" fn card_set_up(table: &mut [u8], bodies: &[u8]) -> u16
@@ -32,7 +32,7 @@ pub extern "C" fn card_command(
 ) -> u16
     ensures { λ r. ⌜ AnsweredAtC (now (table .entry)) (Item.command (now (command .entry)) (now (given .entry)) (length (now (answer .entry)))) (now (answer .entry)) (now (reply .entry)) r (now (table .exit)) (now (answer .exit)) (now (reply .exit)) ⌝ }
 {
-    let r = crate::answering::command(table, command, given, answer);
+    let r = crate::commanded::command(table, command, given, answer);
     put_reply(reply, r.dword, r.len);
     r.status
 }

@@ -2,31 +2,35 @@
 ghost use mathlib.Core.Path.{_≡_};
 ghost use mathlib.Core.List.{[], map};
 ghost use lib.ListN.{length};
-ghost use Rattle.record.specs.Events.{settled};
-ghost use Rattle.rules.specs.Rules.{readEvent, writeEvent, excursionEvent, tick};
+ghost use Rattle.record.specs.Event.{settled};
+ghost use Rattle.rules.specs.Rules.{readEvent, writeEvent, excursionEvent, mediaRule, tick};
 ghost use Rattle.table.specs.Table.{count, recordsOf, Legal, writtenRows};
 ghost use Rattle.region.specs.Region.{tableIn, tableOut, recordAt, withRecord, LegalAt};
-ghost use Rattle.steps.specs.Items.{Item};
-ghost use Rattle.steps.specs.Media.{mediaRule, itemOf, tickOne};
+ghost use Rattle.steps.specs.Items.{Item, itemOf};
+ghost use Rattle.by_value.specs.Ticks.{tickOne};
 ghost use Rattle.card_c.specs.InPlace.{ruledAt, AnswerAtC};
-use by_value::answering::done;
-use by_value::answering::refuse;
-use by_value::media::DAY_MS;
+use by_value::entry::entry_no;
 use record::Effect;
 use record::Record;
 use record::SetId;
 use record::Slot;
-use record::notices::is_silent;
-use record::notices::settle;
+use record::event::is_silent;
+use record::event::settle;
+use record::legal::DAY_MS;
 use region::load;
 use region::store_moved;
 use region::store_silent;
 use replies::Reply;
+use replies::done;
+use replies::numbers::BAD_TABLE;
+use replies::numbers::TICK_TOO_LONG;
+use replies::numbers::UNKNOWN_SET;
+use replies::refuse;
+use rules::Media;
 use rules::excursion_event;
 use rules::read_event;
 use rules::tick_event;
 use rules::write_event;
-use steps::Media;
 use table::Entry;
 
 // The record of a slot after an effect that leaves its configuration. Most effects note nothing, and leave the notes' words alone.
@@ -98,8 +102,8 @@ pub(crate) fn event(region: &mut [u8], id: u16, m: Media) -> Reply
 {
     let e = region::enter(region, SetId(id));
     match e {
-        Entry::Bad => refuse(0x07C3),
-        Entry::Unknown => refuse(0x07C0),
+        Entry::Bad => refuse(entry_no(UNKNOWN_SET, e)),
+        Entry::Unknown => refuse(entry_no(UNKNOWN_SET, e)),
         Entry::Here(slot) => {
             event_at(region, slot, m);
             done()
@@ -123,13 +127,13 @@ pub(crate) fn ticks(region: &mut [u8], t: u32, answer: &[u8]) -> Reply
     ensures { λ x. ⌜ AnswerAtC (now (region .entry)) (Item.tick t (length (now (answer .entry)))) (now (answer .entry)) x (now (region .exit)) (now (answer .entry)) ⌝ }
 {
     if region::legal(region) {
-        if DAY_MS < t {
-            return refuse(0x07C5);
+        if DAY_MS < (t as u64) {
+            return refuse(TICK_TOO_LONG);
         }
         let n = region::count_of(region);
         tick_all(region, n, t);
         done()
     } else {
-        refuse(0x07C3)
+        refuse(BAD_TABLE)
     }
 }

@@ -4,20 +4,15 @@ ghost use Prim.Native.Nat.{_≤_};
 ghost use lib.ListN.{length};
 ghost use lib.Seq.{sets};
 ghost use Rattle.card_c.specs.Entries.{replySize, replyPage, replyPart};
+use octets::casts::from_size;
 
 const REPLY: usize = 16;
-
-fn wide(n: usize) -> u64
-    ensures { λ r. ⌜ r ≡ n ⌝ }
-{
-    n as u64
-}
 
 fn reply_page(dword: u32, len: usize) -> [u8; REPLY]
     ensures { λ r. ⌜ r ≡ replyPage dword len ⌝ }
 {
     let dword = dword as u64;
-    let len = wide(len);
+    let len = from_size(len);
     let mut page = [0u8; REPLY];
     octets::fill(&mut page, &[[0, 4, dword], [4, 4, len]]);
     page
@@ -29,7 +24,7 @@ fn put_whole(reply: &mut [u8], dword: u32, len: usize)
     ensures { λ _. ⌜ now (reply .exit) ≡ sets (now (reply .entry)) 0 (replyPage dword len) ⌝ }
 {
     octets::put(reply, 0, 4, dword as u64);
-    octets::put(reply, 4, 4, wide(len));
+    octets::put(reply, 4, 4, from_size(len));
     octets::put(reply, 8, 8, 0);
 }
 

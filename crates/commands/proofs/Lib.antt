@@ -1,2 +1,4 @@
+pub mod Listed
+pub mod Early
 pub mod Stacked
 pub mod Passed

@@ -3,13 +3,14 @@ use mathlib.Core.Path.{_≡_, refl}
 use mathlib.Core.Bool.{true, false}
 use mathlib.Core.List.{List, [], _∷_, _++_}
 use Prim.Native.Nat.{ℕ}
+use native.Mathlib.Omega.{arith}
 use Rattle.record.specs.declared.Attributes.{Attributes}
 use Rattle.record.specs.declared.State.{State}
-use Rattle.replies.specs.Status.{Line, firstOf, numbered}
+use Rattle.replies.specs.Status.{Line, line, firstOf, numbered}
 use Rattle.replies.proofs.Rows.{passed}
 use Rattle.commands.specs.declared.Command.{Command}
 use Rattle.commands.specs.declared.Kind.{Kind}
-use Rattle.commands.specs.StatusTable.{lengthRow, opcodeRow, choiceRow, pageRow, saveRow, partRow, earlyLines, windowWrong, shortLine, selectsEarly, lateLines}
+use Rattle.commands.specs.StatusTable.{lengthRow, opcodeRow, choiceRow, pageRow, saveRow, partRow, earlyLines, unknownNumber, windowWrong, shortLine, selectsEarly, lateLines}
 
 pub record Early (c : Command) (more : List Line) : Type 0 where
   pub length : lengthRow c .holds ≡ false
@@ -46,3 +47,7 @@ late-passed k c given room a s z =
 -- a row below them that holds
 pub not-past : (c : Command) (more : List Line) → numbered more ≡ true → (firstOf more ≡ 0 → ⊥) → firstOf (earlyLines c ++ more) ≡ 0 → ⊥
 not-past c more n h z = h (early-passed c more n z .later)
+
+-- a set that is not in the table
+pub unknown-not-zero : (c : Command) → firstOf (earlyLines c ++ line true unknownNumber ∷ []) ≡ 0 → ⊥
+unknown-not-zero c z = not-past c (line true unknownNumber ∷ []) refl (λ y. omega arith) z

@@ -1,11 +1,13 @@
-// What a command's 64 bytes say, and 01's status table. Nothing here knows of a table of sets.
-pub mod status;
+// What a command's 64 bytes say, 01's commands as one table, and its status table. Nothing here knows of a table of sets.
+pub mod shapes;
+pub mod status_table;
 
 ghost use mathlib.Core.Path.{_≡_};
 ghost use Prim.Native.Nat.{_≤_};
 ghost use lib.ListN.{length};
-ghost use Rattle.commands.specs.Commands.{commandSize, dwordsOf, commandIn, opcode, isLog, isIdentify, isSet, isGet, chosen, save, select, featureSet, enable, windowValue, causeBy, windowCause, retain, dwords, logSet, offset, asked, kindBy, kindOf, needsIn, needsOut, logSize};
-use pages::read::word;
+ghost use Rattle.commands.specs.Commands.{commandSize, dwordsOf, commandIn, bits, opcode, chosen, save, select, featureSet, enable, windowValue, causeBy, windowCause, retain, dwords, logSet, offset, asked};
+use octets::numbers::word;
+use record::SetId;
 use rules::Cause;
 
 // The dwords that are looked at, and whether the command is of 64 bytes.
@@ -29,7 +31,40 @@ pub enum Kind {
     Identify,
 }
 
+// Whom a command names: no set, or the one in CDW11 15:0 of a feature command or in 31:16 of a log read.
+pub enum Whom {
+    NoSet,
+    FeatureSet,
+    LogSet,
+}
+
+// A row of the table of commands.
+pub struct Shape {
+    pub opcode: u32,
+    // FID, CNS or page
+    pub choice: u32,
+    // Bytes of data in.
+    pub takes: usize,
+    // The size of the page that it answers, and whether a part of that is asked, as of a log.
+    pub page: usize,
+    pub part: bool,
+    pub whom: Whom,
+    // Whether these rows of the status table look at it: Save; Select; 14h while off; no window of 1 or 2, and too early.
+    pub save: bool,
+    pub select: bool,
+    pub on: bool,
+    pub window: bool,
+}
+
 const SIZE: usize = 64;
+
+// Bytes of a dword.
+pub(crate) const DWORD: u64 = 4;
+
+// CDW12 2:0 of 14h.
+pub(crate) const WINDOW_D: u32 = 1;
+
+pub(crate) const WINDOW_N: u32 = 2;
 
 fn dwords_in(b: &[u8], whole: bool) -> Command
     requires { ⌜ commandSize ≤ length (now b) ⌝ }
@@ -63,40 +98,41 @@ pub fn command_in(bytes: &[u8]) -> Command
     dwords_in(&b, false)
 }
 
-fn opcode_of(c: Command) -> u32
+// Bits 0:0, 7:0, 15:0 and 31:16 of a dword.
+fn low_bit(x: u32) -> u32
+    ensures { λ r. ⌜ r ≡ bits 0 0 x ⌝ }
+{
+    x % 2
+}
+
+fn low_byte(x: u32) -> u32
+    ensures { λ r. ⌜ r ≡ bits 7 0 x ⌝ }
+{
+    x % 0x100
+}
+
+fn low_half(x: u32) -> u16
+    ensures { λ r. ⌜ r ≡ bits 15 0 x ⌝ }
+{
+    (x % 0x10000) as u16
+}
+
+fn high_half(x: u32) -> u16
+    ensures { λ r. ⌜ r ≡ bits 31 16 x ⌝ }
+{
+    (x / 0x10000 % 0x10000) as u16
+}
+
+pub fn opcode_of(c: Command) -> u32
     ensures { λ r. ⌜ r ≡ opcode c ⌝ }
 {
-    c.cdw0 / 1 % 256
-}
-
-pub fn is_log(c: Command) -> bool
-    ensures { λ r. ⌜ r ≡ isLog c ⌝ }
-{
-    opcode_of(c) == 0x02
-}
-
-pub fn is_identify(c: Command) -> bool
-    ensures { λ r. ⌜ r ≡ isIdentify c ⌝ }
-{
-    opcode_of(c) == 0x06
-}
-
-pub fn is_set(c: Command) -> bool
-    ensures { λ r. ⌜ r ≡ isSet c ⌝ }
-{
-    opcode_of(c) == 0x09
-}
-
-pub fn is_get(c: Command) -> bool
-    ensures { λ r. ⌜ r ≡ isGet c ⌝ }
-{
-    opcode_of(c) == 0x0A
+    low_byte(c.cdw0)
 }
 
 pub fn chosen_by(c: Command) -> u32
     ensures { λ r. ⌜ r ≡ chosen c ⌝ }
 {
-    c.cdw10 / 1 % 256
+    low_byte(c.cdw10)
 }
 
 pub fn saves(c: Command) -> bool
@@ -111,22 +147,22 @@ pub fn selected_by(c: Command) -> u32
     c.cdw10 / 0x100 % 8
 }
 
-pub fn feature_set(c: Command) -> u16
-    ensures { λ r. ⌜ r ≡ featureSet c ⌝ }
+pub fn feature_set(c: Command) -> SetId
+    ensures { λ r. ⌜ r .0 ≡ featureSet c ⌝ }
 {
-    (c.cdw11 / 1 % 65536) as u16
+    SetId(low_half(c.cdw11))
 }
 
 pub fn enables(c: Command) -> bool
     ensures { λ r. ⌜ r ≡ enable c ⌝ }
 {
-    c.cdw12 / 1 % 2 == 1
+    low_bit(c.cdw12) == 1
 }
 
 pub fn window_value(c: Command) -> u32
     ensures { λ r. ⌜ r ≡ windowValue c ⌝ }
 {
-    c.cdw12 / 1 % 8
+    c.cdw12 % 8
 }
 
 fn cause_by(d: bool) -> Cause
@@ -138,7 +174,7 @@ fn cause_by(d: bool) -> Cause
 pub fn window_cause(c: Command) -> Cause
     ensures { λ r. ⌜ r ≡ windowCause c ⌝ }
 {
-    cause_by(window_value(c) == 1)
+    cause_by(window_value(c) == WINDOW_D)
 }
 
 pub fn retains(c: Command) -> bool
@@ -150,107 +186,25 @@ pub fn retains(c: Command) -> bool
 pub fn dwords_of(c: Command) -> u64
     ensures { λ r. ⌜ r ≡ dwords c ⌝ }
 {
-    let low = (c.cdw10 / 65536 % 65536) as u64;
-    let high = (c.cdw11 / 1 % 65536) as u64;
-    low + 65536 * high + 1
+    let low = high_half(c.cdw10) as u64;
+    let high = low_half(c.cdw11) as u64;
+    low + 0x10000 * high + 1
 }
 
-pub fn log_set(c: Command) -> u16
-    ensures { λ r. ⌜ r ≡ logSet c ⌝ }
+pub fn log_set(c: Command) -> SetId
+    ensures { λ r. ⌜ r .0 ≡ logSet c ⌝ }
 {
-    (c.cdw11 / 65536 % 65536) as u16
+    SetId(high_half(c.cdw11))
 }
 
 pub fn offset_of(c: Command) -> u64
     ensures { λ r. ⌜ r ≡ offset c ⌝ }
 {
-    (c.cdw12 as u64) + 4294967296 * (c.cdw13 as u64)
+    (c.cdw12 as u64) + 0x1_0000_0000 * (c.cdw13 as u64)
 }
 
-pub fn asked_by(c: Command) -> u16
-    ensures { λ r. ⌜ r ≡ asked c ⌝ }
+pub fn asked_by(c: Command) -> SetId
+    ensures { λ r. ⌜ r .0 ≡ asked c ⌝ }
 {
-    (c.cdw11 / 1 % 65536) as u16
-}
-
-fn kind_by(set: bool, get: bool, log: bool, config: bool, latency: bool) -> Kind
-    ensures { λ r. ⌜ r ≡ kindBy set get log config latency ⌝ }
-{
-    if set {
-        if config {
-            Kind::SetConfig
-        } else {
-            Kind::SetWindow
-        }
-    } else if get {
-        if config {
-            Kind::GetConfig
-        } else {
-            Kind::GetWindow
-        }
-    } else if log {
-        if latency {
-            Kind::ReadLatency
-        } else {
-            Kind::ReadAggregate
-        }
-    } else {
-        Kind::Identify
-    }
-}
-
-pub fn kind_of(c: Command) -> Kind
-    ensures { λ r. ⌜ r ≡ kindOf c ⌝ }
-{
-    let chosen = chosen_by(c);
-    kind_by(
-        is_set(c),
-        is_get(c),
-        is_log(c),
-        chosen == 0x13,
-        chosen == 0x0A,
-    )
-}
-
-pub fn needs_in(k: Kind) -> usize
-    ensures { λ r. ⌜ r ≡ needsIn k ⌝ }
-{
-    match k {
-        Kind::SetConfig => 512,
-        Kind::SetWindow => 0,
-        Kind::GetConfig => 0,
-        Kind::GetWindow => 0,
-        Kind::ReadLatency => 0,
-        Kind::ReadAggregate => 0,
-        Kind::Identify => 0,
-    }
-}
-
-pub fn log_size(k: Kind) -> u64
-    ensures { λ r. ⌜ r ≡ logSize k ⌝ }
-{
-    match k {
-        Kind::SetConfig => 0,
-        Kind::SetWindow => 0,
-        Kind::GetConfig => 0,
-        Kind::GetWindow => 0,
-        Kind::ReadLatency => 512,
-        Kind::ReadAggregate => 72,
-        Kind::Identify => 0,
-    }
-}
-
-pub fn needs_out(k: Kind, c: Command) -> u64
-    ensures { λ r. ⌜ r ≡ needsOut k c ⌝ }
-{
-    let moved = dwords_of(c);
-    match k {
-        Kind::SetConfig => 0,
-        Kind::SetWindow => 0,
-        Kind::GetConfig => 512,
-        Kind::GetWindow => 0,
-        Kind::ReadLatency => moved * 4,
-        Kind::ReadAggregate => moved * 4,
-        Kind::Identify => 4096,
-    }
+    SetId(low_half(c.cdw11))
 }

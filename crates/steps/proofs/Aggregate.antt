@@ -9,15 +9,16 @@ use Rattle.pages.specs.Aggregate.{aggregatePage}
 use Rattle.commands.specs.declared.Kind.{Kind}
 use Rattle.commands.specs.declared.Kind.the-variants.{ReadAggregate}
 use Rattle.steps.specs.Items.{Nobody, command}
-use Rattle.commands.specs.Commands.{commandIn, kindOf, offset, dwords}
-use Rattle.steps.specs.Commanded.{viewed, aggregateOf, meaningBy, commandMeaning}
+use Rattle.commands.specs.Commands.{commandIn, offset, dwords}
+use Rattle.commands.specs.Shapes.{kindOf}
+use Rattle.steps.specs.Commanded.{viewed, meaningBy, commandMeaning}
 use Rattle.steps.specs.Meanings.{meaning}
 use Rattle.steps.specs.Demands.{AggregateLog}
 use Rattle.steps.proofs.History.{aggregate}
 
 meaning-log :
     (bytes given : List ℕ) (room : ℕ) → kindOf (commandIn bytes) ≡ ReadAggregate
-    → meaning (command bytes given room) ≡ Nobody (viewed ReadAggregate (commandIn bytes) (length given) room (aggregateOf (commandIn bytes)))
+    → meaning (command bytes given room) ≡ Nobody (viewed ReadAggregate (commandIn bytes) (length given) room)
 unfolding meaning commandMeaning
 meaning-log bytes given room k = ap (λ (x : Kind). meaningBy x (commandIn bytes) given room) k
 

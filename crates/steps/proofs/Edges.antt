@@ -14,10 +14,11 @@ use Rattle.record.specs.declared.Events.{Events}
 use Rattle.record.specs.declared.Config.{Config}
 use Rattle.record.specs.declared.Record.{Record}
 use Rattle.record.specs.Record.{stateOf}
-use Rattle.record.specs.Events.{eventsOf, noEvents, bitsOf}
+use Rattle.record.specs.Event.{eventsOf, noEvents, bitsOf}
 use Rattle.pages.specs.Latency.{latencyPage}
 use Rattle.steps.specs.Items.{Card, Item, reads, excursion, tick, command}
 use Rattle.commands.specs.Commands.{commandIn}
+use Rattle.commands.specs.Shapes.{kindBy}
 use Rattle.steps.specs.Commanded.{commandMeaning}
 use Rattle.steps.specs.Meanings.{meaning}
 use Rattle.steps.specs.Order.{seven}
@@ -133,5 +134,5 @@ expected =
     ∷ []
 
 edges : got ≡ expected
-unfolding got expected commandIn commandMeaning meaning refusalOf effectOn concerns touched answer latencyPage place
+unfolding got expected commandIn kindBy commandMeaning meaning refusalOf effectOn concerns touched answer latencyPage place
 edges = refl

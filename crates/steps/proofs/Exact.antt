@@ -11,39 +11,38 @@ use borrow.Author.Tests.{eqb-true, ne-eqb, le-ltb}
 use lib.Dec.{eqb}
 use lib.ListN.{length}
 use Rattle.octets.specs.Choice.{if_then_else_}
-use Rattle.octets.proofs.Tests.{both}
+use Rattle.octets.proofs.JoinedTests.{both, left-false}
 use Rattle.record.specs.declared.Record.{Record}
 use Rattle.replies.specs.declared.Reply.{Reply}
 use Rattle.replies.specs.Numbers.{invalidField, unknownSet, tooEarly}
 use Rattle.replies.specs.Status.{Line, line, firstOf}
 use Rattle.replies.specs.Answers.{Answer, refused, refusing, Replied}
 use Rattle.replies.proofs.Rows.{first-append}
-use Rattle.replies.proofs.Answering.{one-outcome}
+use Rattle.replies.proofs.Answering.{one-outcome, refused-reply}
 use Rattle.table.specs.Table.{recordsOf, legalTable}
 use Rattle.commands.specs.declared.Command.{Command}
 use Rattle.commands.specs.declared.Kind.{Kind}
 use Rattle.commands.specs.declared.Kind.the-variants.{SetConfig, SetWindow, GetConfig, GetWindow, ReadLatency, ReadAggregate, Identify}
-use Rattle.commands.specs.Commands.{kindOf, commandIn, featureSet, logSet}
-use Rattle.commands.specs.StatusTable.{earlyLines, unknownNumber, about14, stores14, windowWrong, shortLine, selectsEarly, lateLines}
-use Rattle.steps.specs.declared.Media.{Media}
-use Rattle.steps.specs.Lists.{first}
-use Rattle.steps.specs.Items.{Card, Item, reads, writes, excursion, tick, command, One, Meaning, Nobody, Everybody, The}
-use Rattle.steps.specs.Commanded.{isNamed, namedBy, named, meaningBy, commandMeaning}
+use Rattle.commands.specs.Commands.{commandIn}
+use Rattle.commands.specs.Shapes.{shapeOf, kindOf, isNamed, namedBy}
+use Rattle.commands.proofs.Passed.{unknown-not-zero}
+use Rattle.commands.specs.StatusTable.{earlyLines, unknownNumber, windowWrong, shortLine, selectsEarly, lateLines}
+use Rattle.rules.specs.declared.Media.{Media}
+use Rattle.octets.specs.Lists.{first}
+use Rattle.steps.specs.Items.{Card, Item, reads, writes, excursion, tick, command, itemOf, One, Meaning, Nobody, Everybody, The}
+use Rattle.steps.specs.Commanded.{named, viewed, meaningBy, commandMeaning}
 use Rattle.steps.specs.Meanings.{event, meaning}
-use Rattle.steps.specs.Media.{mediaRule, itemOf}
+use Rattle.rules.specs.Rules.{mediaRule}
 use Rattle.steps.specs.Card.{has, unknownAt, refusalOne, refusalBy, refusalOf, doneOne, doneBy, answerBy, answer}
 use Rattle.steps.specs.Rows.{setIn, isThere, ofSet, commandRows, eventRows, tickRows, carriedOut, Told}
 use Rattle.steps.specs.Words.{cardOf, stepWords}
 use Rattle.steps.specs.SetUp.{setUpLines, setUpStatus, setUp}
 use Rattle.steps.specs.Demands.{refusalWords, CarriedOut, Exactly, ExactlyEvents, ExactlyTicks, RefusedBuffer, RefusedHanded, SetUpExactly, SetUpRefused, SetUpLegal}
 use Rattle.steps.proofs.OnWords.{refused-words}
-use Rattle.steps.proofs.Carried.{refused-reply}
 use Rattle.steps.proofs.NewSets.{done, notDone, legal-set-up}
 use Rattle.steps.proofs.Shapes.{bool-cases}
+use Rattle.steps.proofs.Named.{meaning-media}
 use Rattle.steps.proofs.Frame.{step-bad, step-legal}
-use Rattle.steps.proofs.Events.{meaning-media}
-use Rattle.steps.proofs.Passing.{left-false}
-use Rattle.steps.proofs.Naming.{unknown-not-zero}
 
 -- what is to be shown of each item: what it answers where nothing refuses it is a success, and an unknown set is refused
 abbrev Succeeds : Meaning → Type 0
@@ -51,18 +50,13 @@ Succeeds (Nobody v) = (c : Card) → v .done c .status ≡ 0
 Succeeds (Everybody a) = Unit {0}
 Succeeds (The id o) = (unknownAt o ≡ 0 → ⊥) × ((r : Record) → o .done r .status ≡ 0)
 
-by-kind : (k : Kind) (c : Command) (given : List ℕ) (room : ℕ) → Succeeds (meaningBy k c given room)
-by-kind SetConfig c given room = (unknown-not-zero c, λ r. refl)
-by-kind SetWindow c given room = (unknown-not-zero c, λ r. refl)
-by-kind GetConfig c given room = (unknown-not-zero c, λ r. refl)
-by-kind GetWindow c given room = (unknown-not-zero c, λ r. refl)
-by-kind ReadLatency c given room = (unknown-not-zero c, λ r. refl)
-by-kind ReadAggregate c given room = λ card. refl
-by-kind Identify c given room = λ card. refl
+by-naming : (b : Bool) (k : Kind) (c : Command) (given : List ℕ) (room : ℕ) → Succeeds (if b then The (namedBy k c) (named k c given room) else Nobody (viewed k c (length given) room))
+by-naming true k c given room = (unknown-not-zero c, λ r. refl)
+by-naming false k c given room = λ card. refl
 
 command-succeeds : (bytes given : List ℕ) (room : ℕ) → Succeeds (commandMeaning bytes given room)
 unfolding commandMeaning
-command-succeeds bytes given room = by-kind (kindOf (commandIn bytes)) (commandIn bytes) given room
+command-succeeds bytes given room = by-naming (isNamed (kindOf (commandIn bytes))) (kindOf (commandIn bytes)) (commandIn bytes) given room
 
 succeeds : (i : Item) → Succeeds (meaning i)
 unfolding meaning
@@ -149,34 +143,43 @@ unfolding below
 named-below k c given room h none = same-below c (line true unknownNumber ∷ []) (below k c (length given) room none) (rw h)
 named-below k c given room h (some r) = same-below c (lateLines k c (length given) room (r .attributes) (r .state)) (below k c (length given) room (some r)) (rw (and-false (isNamed k)))
 
-no-window : (k : Kind) (c : Command) (set : Option Record) → about14 k ≡ false → stores14 k ≡ false → (ofSet (λ a s. windowWrong k c s) set ≡ false) × (ofSet (selectsEarly k c) set ≡ false)
-no-window k c none a b = (refl, refl)
-no-window k c (some r) a b = (rw (a, b), rw b)
+named-not : true ≡ false → ⊥
+named-not h = let z : _≡_ {A = ℕ} 1 0 = ap (λ (b : Bool). if b then 1 else 0) h in omega arith
+
+-- the rows that look at the window look at no command that names no set
+no-window : (k : Kind) → isNamed k ≡ false → (shapeOf k .on ≡ false) × (shapeOf k .window ≡ false)
+no-window SetConfig h = absurd (named-not h)
+no-window SetWindow h = absurd (named-not h)
+no-window GetConfig h = absurd (named-not h)
+no-window GetWindow h = absurd (named-not h)
+no-window ReadLatency h = absurd (named-not h)
+no-window ReadAggregate h = (refl, refl)
+no-window Identify h = (refl, refl)
+
+no-row : (k : Kind) (c : Command) (set : Option Record) → isNamed k ≡ false → (ofSet (λ a s. windowWrong k c s) set ≡ false) × (ofSet (selectsEarly k c) set ≡ false)
+no-row k c none h = (refl, refl)
+no-row k c (some r) h = let n = no-window k h in (rw (n .0, n .1), rw (n .1))
 
 viewed-below :
-    (k : Kind) (c : Command) (given room : ℕ) (set : Option Record) → isNamed k ≡ false → about14 k ≡ false → stores14 k ≡ false
+    (k : Kind) (c : Command) (given room : ℕ) (set : Option Record) → isNamed k ≡ false
     → firstOf (earlyLines c ++ shortLine k c given room ∷ []) ≡ firstOf (earlyLines c ++ below k c given room set)
 unfolding below
-viewed-below k c given room set h a b =
-    let w = no-window k c set a b in
+viewed-below k c given room set h =
+    let w = no-row k c set h in
     same-below c (shortLine k c given room ∷ []) (below k c given room set) (rw (h, w .0, w .1))
 
-by-kind-rows :
-    (k : Kind) (c : Command) (given : List ℕ) (room : ℕ) (card : Card)
-    → refusalBy (meaningBy k c given room) card ≡ firstOf (earlyLines c ++ below k c (length given) room (first (has (namedBy k c)) (card .sets)))
-by-kind-rows SetConfig c given room card = named-below SetConfig c given room refl (first (has (featureSet c)) (card .sets))
-by-kind-rows SetWindow c given room card = named-below SetWindow c given room refl (first (has (featureSet c)) (card .sets))
-by-kind-rows GetConfig c given room card = named-below GetConfig c given room refl (first (has (featureSet c)) (card .sets))
-by-kind-rows GetWindow c given room card = named-below GetWindow c given room refl (first (has (featureSet c)) (card .sets))
-by-kind-rows ReadLatency c given room card = named-below ReadLatency c given room refl (first (has (logSet c)) (card .sets))
-by-kind-rows ReadAggregate c given room card = viewed-below ReadAggregate c (length given) room _ refl refl refl
-by-kind-rows Identify c given room card = viewed-below Identify c (length given) room _ refl refl refl
+by-naming-rows :
+    (b : Bool) (k : Kind) (c : Command) (given : List ℕ) (room : ℕ) (card : Card) → isNamed k ≡ b
+    → refusalBy (if b then The (namedBy k c) (named k c given room) else Nobody (viewed k c (length given) room)) card
+    ≡ firstOf (earlyLines c ++ below k c (length given) room (first (has (namedBy k c)) (card .sets)))
+by-naming-rows true k c given room card h = named-below k c given room h (first (has (namedBy k c)) (card .sets))
+by-naming-rows false k c given room card h = viewed-below k c (length given) room _ h
 
 command-rows :
     (ws bytes given : List ℕ) (room : ℕ) (b : Bool) → legalTable ws ≡ b
     → refusalWords ws (command bytes given room) ≡ firstOf (commandRows ws bytes given room)
 unfolding refusalOf meaning commandMeaning below
-command-rows ws bytes given room true e = rw e (by-kind-rows (kindOf (commandIn bytes)) (commandIn bytes) given room (cardOf ws))
+command-rows ws bytes given room true e = rw e (by-naming-rows (isNamed (kindOf (commandIn bytes))) (kindOf (commandIn bytes)) (commandIn bytes) given room (cardOf ws) refl)
 command-rows ws bytes given room false e = rw e
 
 pub exactly : Exactly

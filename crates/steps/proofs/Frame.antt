@@ -11,16 +11,17 @@ use borrow.Author.Tests.{eqb-true, eq-eqb, ne-eqb}
 use lib.Dec.{eqb}
 use lib.ListN.{length}
 use Rattle.record.specs.declared.Record.{Record}
-use Rattle.record.specs.Events.{settled}
+use Rattle.record.specs.Record.{idOf}
+use Rattle.record.specs.Event.{settled}
 use Rattle.replies.specs.Numbers.{badTable}
 use Rattle.replies.specs.Answers.{refused}
 use Rattle.table.specs.declared.Found.{Found}
 use Rattle.table.specs.declared.Found.the-variants.{At, Nothing}
 use Rattle.table.specs.Layout.{wordsOf, recordOf}
-use Rattle.table.specs.Table.{count, rowStart, row, put, rowsFrom, recordsOf, idOf, legalTable, findFrom, findIn, written}
-use Rattle.table.proofs.Known.{legal-known, length-records, sets-known}
+use Rattle.table.specs.Table.{count, rowStart, row, put, rowsFrom, recordsOf, legalTable, findFrom, findIn, written}
+use Rattle.table.proofs.LegalTables.{legal-known, length-records, sets-known}
 use Rattle.table.proofs.Written.{written-own, written-one}
-use Rattle.steps.specs.Lists.{nth, first}
+use Rattle.octets.specs.Lists.{nth, first}
 use Rattle.steps.specs.Items.{Item, One, The}
 use Rattle.steps.specs.Meanings.{meaning}
 use Rattle.steps.specs.Card.{refusalAt, unknownAt, refusalOne, refusalOf, effectOn, ruled, has, names, after, answer}

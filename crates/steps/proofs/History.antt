@@ -11,15 +11,16 @@ use lib.Dec.{eqb}
 use lib.ListN.{length, length-map}
 use Rattle.octets.specs.Choice.{if_then_else_}
 use Rattle.record.specs.declared.Record.{Record}
+use Rattle.record.specs.Record.{idOf}
 use Rattle.replies.specs.Answers.{granted, refused}
-use Rattle.table.specs.Table.{idOf, legalSets, listedMarks}
+use Rattle.table.specs.Table.{legalSets, listedMarks}
 use Rattle.pages.specs.Aggregate.{picked}
-use Rattle.steps.specs.Lists.{nth, first, keep, beside, join}
+use Rattle.octets.specs.Lists.{nth, first, keep, beside, join}
 use Rattle.steps.specs.Items.{Card, Item, All, Meaning, Nobody, Everybody, The}
 use Rattle.steps.specs.Meanings.{meaning}
 use Rattle.steps.specs.Card.{refusalAll, refusalBy, refusalOf, effectOn, ruled, has, names, namesBy, concerns, concernsBy, touched, after, answer, run, trace}
 use Rattle.steps.specs.Demands.{alone, toAllBy, toAll, owns, own, OwnRecord, lived, ByRules, OwnAnswers, Joined, raises, noneCleared, raised, pending, Listed, PickedIds, Aggregate, Rising, InOrder, Swap, SwapWithin}
-use Rattle.steps.proofs.Lists.{if-ap, if-cons, map-id, map-same, map-same-if, nth-map, keep-same, keep-map, first-map, first-fixed}
+use Rattle.octets.proofs.Lists.{if-ap, if-cons, map-id, map-same, map-same-if, nth-map, keep-same, keep-map, first-map, first-fixed}
 use Rattle.steps.proofs.Shapes.{bool-cases, named, unnamed, answers, fewer-all, fewer, touched-own, touched-not, keeps}
 use Rattle.steps.proofs.Slots.{ordered, found}
 

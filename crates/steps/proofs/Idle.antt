@@ -6,7 +6,7 @@ use native.Mathlib.Omega.{arith}
 use lib.ListN.{length, getD}
 use Rattle.octets.specs.Octets.{numberOf, part}
 use Rattle.record.specs.declared.Record.{Record}
-use Rattle.record.specs.Legal.{maxSets}
+use Rattle.table.specs.Table.{maxSets}
 use Rattle.replies.specs.Answers.{Answer}
 use Rattle.pages.specs.Aggregate.{aggregatePage}
 use Rattle.pages.proofs.Listed.{aggregate-back}

@@ -10,11 +10,12 @@ use lib.ListN.{length, length-map}
 use Rattle.record.specs.declared.Attributes.{Attributes}
 use Rattle.record.specs.declared.State.{State}
 use Rattle.record.specs.declared.Record.{Record}
+use Rattle.record.specs.Record.{idOf}
 use Rattle.record.specs.Legal.{legalAttributes, legalState, legalRecord, KeepsState}
 use Rattle.rules.specs.Rules as rules
 use Rattle.rules.proofs.Keeps.{keeps-record, read-event-keeps, write-event-keeps, excursion-keeps, tick-keeps, configure-keeps, selecting-keeps}
-use Rattle.table.specs.Table.{idOf, recordsOf, legalSets, legalTable}
-use Rattle.table.proofs.Known.{legal-known, length-records, sets-known}
+use Rattle.table.specs.Table.{recordsOf, legalSets, legalTable}
+use Rattle.table.proofs.LegalTables.{legal-known, length-records, sets-known}
 use Rattle.table.proofs.Written.{Fitting, fitting, written-back, written-legal}
 use Rattle.steps.specs.Items.{Item, reads, writes, excursion, tick, command, Meaning, Nobody, Everybody, The}
 use Rattle.octets.specs.Choice.{if_then_else_}
@@ -22,7 +23,8 @@ use Rattle.pages.specs.Features.{configIn}
 use Rattle.commands.specs.declared.Command.{Command}
 use Rattle.commands.specs.declared.Kind.{Kind}
 use Rattle.commands.specs.declared.Kind.the-variants.{SetConfig, SetWindow, GetConfig, GetWindow, ReadLatency, ReadAggregate, Identify}
-use Rattle.commands.specs.Commands.{enable, windowCause, retain, kindOf, commandIn}
+use Rattle.commands.specs.Commands.{enable, windowCause, retain, commandIn}
+use Rattle.commands.specs.Shapes.{kindOf}
 use Rattle.steps.specs.Commanded.{meaningBy, commandMeaning}
 use Rattle.steps.specs.Meanings.{meaning}
 use Rattle.steps.specs.Card.{refusalAt, effectBy, effectOn, concerns, touched, after, step}

@@ -8,19 +8,18 @@ use native.Mathlib.Omega.{arith}
 use borrow.Author.Tests.{ne-eqb}
 use lib.ListN.{length}
 use lib.Seq.{sets}
-use Rattle.octets.proofs.Runs.{sets-comm}
+use Rattle.octets.proofs.Runs.{sets-comm, sets-over}
 use Rattle.record.specs.declared.Record.{Record}
 use Rattle.table.specs.Layout.{wordsOf}
 use Rattle.table.specs.Card.{header}
 use Rattle.table.specs.Table.{rowStart, put, legalTable, writtenFrom, writtenRows, written}
 use Rattle.table.proofs.Records.{length-words}
-use Rattle.table.proofs.Known.{legal-known}
+use Rattle.table.proofs.LegalTables.{legal-known}
 use Rattle.table.proofs.Written.{written-own}
 use Rattle.steps.specs.Items.{Card, Item}
 use Rattle.steps.specs.Card.{refusalOf, after, answer, run, trace}
 use Rattle.steps.specs.Words.{cardOf, stepWords}
 use Rattle.steps.specs.Demands.{Refused, RefusedWords, runWords, traceWords, WordsRun, WordsTrace, WordsSwap}
-use Rattle.steps.proofs.Lists.{sets-over}
 use Rattle.steps.proofs.Shapes.{bool-cases}
 use Rattle.steps.proofs.Slots.{refused-answer, refused-sets}
 use Rattle.steps.proofs.Frame.{step-bad, step-legal, step-refused}

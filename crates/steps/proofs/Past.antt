@@ -9,14 +9,14 @@ use borrow.Author.Tests.{eqb-true, le-ltb, leb-true}
 use lib.Dec.{eqb, leb}
 use lib.ListN.{length, length-map, length-append}
 use Rattle.octets.specs.Choice.{if_then_else_}
-use Rattle.octets.proofs.Tests.{both}
-use Rattle.record.specs.Legal.{maxSets, inRange}
+use Rattle.octets.proofs.JoinedTests.{both}
+use Rattle.record.specs.Legal.{inRange}
 use Rattle.replies.specs.Numbers.{badTable}
 use Rattle.replies.specs.Answers.{refused}
-use Rattle.table.specs.Table.{count, rowStart, sized, legalTable, written}
-use Rattle.table.proofs.Known.{length-records}
+use Rattle.table.specs.Table.{count, rowStart, sized, legalTable, written, maxSets}
+use Rattle.table.proofs.LegalTables.{length-records}
 use Rattle.table.proofs.Written.{length-written}
-use Rattle.table.proofs.Past.{written-past, records-past, legal-past}
+use Rattle.table.proofs.PastTheTable.{written-past, records-past, legal-past}
 use Rattle.steps.specs.Items.{Card, Item}
 use Rattle.steps.specs.Card.{after, answer}
 use Rattle.steps.specs.Words.{Result, cardOf, stepWords}

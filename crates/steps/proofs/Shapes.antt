@@ -8,12 +8,12 @@ use native.Mathlib.Nat.{mul-le-mul-left}
 use lib.Dec.{eqb, ltb}
 use borrow.Author.Tests.{ltb-false, le-ltb, eqb-true, eq-eqb}
 use Rattle.record.specs.declared.Record.{Record}
-use Rattle.table.specs.Table.{idOf}
-use Rattle.steps.specs.Lists.{first}
+use Rattle.record.specs.Record.{idOf}
+use Rattle.octets.specs.Lists.{first}
 use Rattle.steps.specs.Items.{Card, Item, All, Meaning, Nobody, Everybody, The}
 use Rattle.steps.specs.Meanings.{meaning}
 use Rattle.steps.specs.Card.{refusalAll, has, names, namesBy, concerns, concernsBy, touched, ruled, answer, answerBy}
-use Rattle.steps.proofs.Lists.{last-row}
+use Rattle.replies.proofs.Rows.{last-row}
 
 pub bool-cases : (b : Bool) → (b ≡ true) ⊎ (b ≡ false)
 bool-cases true = inl refl

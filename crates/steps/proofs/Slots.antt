@@ -9,18 +9,19 @@ use native.Mathlib.Omega.{arith}
 use borrow.Author.Tests.{eqb-true, eq-eqb, ne-eqb, ltb-true}
 use lib.Dec.{eqb, ltb}
 use lib.ListN.{length, set}
-use Rattle.octets.proofs.Tests.{both}
+use Rattle.octets.proofs.JoinedTests.{both}
 use Rattle.record.specs.declared.Record.{Record}
-use Rattle.record.specs.Events.{settled}
+use Rattle.record.specs.Record.{idOf}
+use Rattle.record.specs.Event.{settled}
 use Rattle.record.specs.Legal.{legalRecord}
 use Rattle.replies.specs.Answers.{refused}
 use Rattle.rules.specs.Rules.{still}
-use Rattle.table.specs.Table.{idOf, legalSets}
-use Rattle.steps.specs.Lists.{nth, first}
+use Rattle.table.specs.Table.{legalSets}
+use Rattle.octets.specs.Lists.{nth, first}
 use Rattle.steps.specs.Items.{Card, Item, Meaning, Nobody, Everybody, The}
 use Rattle.steps.specs.Meanings.{meaning}
 use Rattle.steps.specs.Card.{effectBy, effectOn, ruled, concernsBy, refusalBy, refusalOf, concerns, touched, after, has, answer, names}
-use Rattle.steps.proofs.Lists.{map-fixed}
+use Rattle.octets.proofs.Lists.{map-fixed}
 use Rattle.steps.proofs.Shapes.{bool-cases, named, touched-own, touched-not}
 
 -- ---- identifiers that rise

@@ -10,7 +10,7 @@ use borrow.Author.Tests.{eqb-true, eq-eqb}
 use lib.Dec.{eqb}
 use lib.ListN.{length}
 use Rattle.octets.specs.Choice.{if_then_else_}
-use Rattle.octets.proofs.Tests.{both}
+use Rattle.octets.proofs.JoinedTests.{both, left-false, right-false}
 use Rattle.record.specs.declared.Attributes.{Attributes}
 use Rattle.record.specs.declared.Window.{Window}
 use Rattle.record.specs.declared.Window.the-variants.{Off, D, N}
@@ -19,30 +19,30 @@ use Rattle.record.specs.declared.Quantity.the-variants.{Reads, Writes, Time}
 use Rattle.record.specs.declared.State.{State}
 use Rattle.record.specs.declared.Record.{Record}
 use Rattle.record.specs.declared.Effect.{Effect}
-use Rattle.record.specs.Record.{limit, spent, afresh, spending}
-use Rattle.record.specs.Events.{bit}
-use Rattle.record.specs.Window.{byWindow, windowNo, sameWindow}
+use Rattle.record.specs.Record.{afresh, idOf}
+use Rattle.record.specs.Quantities.{limit, spent, spending}
+use Rattle.record.specs.Event.{bit}
+use Rattle.record.specs.Windows.{byWindow, windowNo, sameWindow}
 use Rattle.replies.specs.Status.{line}
-use Rattle.commands.proofs.Passed.{early-passed, late-passed}
+use Rattle.commands.proofs.Passed.{early-passed, late-passed, unknown-not-zero}
 use Rattle.rules.specs.declared.Cause.the-variants.{Excursion, Exceeded, TimeUp}
-use Rattle.rules.specs.Changes.{movedBy}
+use Rattle.rules.specs.Changes.{movedBy, refusedBy}
 use Rattle.rules.specs.Rules as rules
-use Rattle.table.specs.Table.{idOf}
 use Rattle.pages.specs.Features.{configIn}
-use Rattle.steps.specs.Lists.{first}
+use Rattle.octets.specs.Lists.{first}
 use Rattle.commands.specs.declared.Command.{Command}
 use Rattle.commands.specs.declared.Kind.{Kind}
 use Rattle.commands.specs.declared.Kind.the-variants.{SetConfig, SetWindow, GetConfig, GetWindow, ReadLatency, ReadAggregate, Identify}
 use Rattle.steps.specs.Items.{Card, Item, reads, writes, excursion, tick, command, One, Meaning, Nobody, Everybody, The}
-use Rattle.commands.specs.Commands.{featureSet, enable, windowValue, causeBy, windowCause, retain, kindOf, commandIn}
-use Rattle.commands.specs.StatusTable.{isOff, lateLines}
+use Rattle.commands.specs.Commands.{featureSet, enable, windowValue, causeBy, windowCause, retain, commandIn}
+use Rattle.commands.specs.Shapes.{kindOf}
+use Rattle.commands.specs.StatusTable.{isOff, noWindow, lateLines}
 use Rattle.steps.specs.Commanded.{modeNo, named, meaningBy, commandMeaning}
 use Rattle.steps.specs.Meanings.{meaning}
 use Rattle.steps.specs.Card.{refusalAt, refusalOne, refusalOf, has, effectBy, effectOn, names, namesBy, concernsBy, concerns, touched, after, answer, run}
 use Rattle.steps.specs.Demands.{noneOf, stores13, configures, ConfigStored, reaches, toAllBy, toAll, WindowStored}
 use Rattle.steps.proofs.Exact.{answers}
-use Rattle.steps.proofs.Naming.{unknown-not-zero}
-use Rattle.steps.proofs.Lists.{first-map, first-passes, first-fixed}
+use Rattle.octets.proofs.Lists.{first-map, first-passes, first-fixed}
 use Rattle.steps.proofs.Shapes.{bool-cases, touched-own, touched-not, keeps}
 use Rattle.steps.proofs.History.{has-same}
 
@@ -145,7 +145,7 @@ mild : (id : ℕ) (i : Item) → configures id i ≡ false → Mild id (meaning 
 unfolding meaning
 mild id (reads named k) h = λ e a s. by-window (s .window) s _ _ _ (same s) (charge-kept Reads k a s) (same s)
 mild id (writes named k) h = λ e a s. by-window (s .window) s _ _ _ (same s) (charge-kept Writes k a s) (same s)
-mild id (excursion named) h = λ e a s. by-window (s .window) s _ _ _ (same s) (record { mode = excursion-mode (s .window); config = refl }) (same s)
+mild id (excursion named) h = λ e a s. by-test (sameWindow (movedBy (s .window) Excursion) (s .window)) s _ _ (same s) (record { mode = excursion-mode (s .window); config = refl })
 mild id (tick t room) h = λ a s. by-window (s .window) s _ _ _ (same s) (charge-kept Time t a s) (record { mode = refl; config = refl })
 mild id (command bytes given room) h = command-mild id bytes given room h
 
@@ -270,18 +270,15 @@ untouched (i ∷ is) c id h =
     ∙ first-fixed (touched n i) (has id) (has-same n id i) (λ r e. touched-not n i r (rw (eqb-true (idOf r) id e) z)) (c .sets)
 
 -- "14h while off; window not 1 or 2 (Set)": a select that passes asks for a window of a set that is on
-or-none : (a b : Bool) → a || b ≡ false → (a ≡ false) × (b ≡ false)
-or-none true b h = (h, cc)
-or-none false b h = (refl, h)
-
 one-or-two : (v : ℕ) (a b : Bool) → eqb v 1 ≡ a → eqb v 2 ≡ b → not (a || b) ≡ false → (if a then 1 else 2) ≡ v
 one-or-two v true b e f h = sym (eqb-true v 1 e)
 one-or-two v false true e f h = sym (eqb-true v 2 f)
 one-or-two v false false e f h = cc
 
 -- and leaves that window
-moved-window : (d : Bool) (w : Window) → byWindow w true false false ≡ false → windowNo (movedBy w (causeBy d)) ≡ if d then 1 else 2
-moved-window d Off h = cc
+moved-window : (d : Bool) (w : Window) → refusedBy w (causeBy d) ≡ false → windowNo (movedBy w (causeBy d)) ≡ if d then 1 else 2
+moved-window true Off h = cc
+moved-window false Off h = cc
 moved-window true D h = refl
 moved-window false D h = refl
 moved-window true N h = refl
@@ -291,7 +288,7 @@ lands : (b : Bool) (e f : Effect) (n : ℕ) → (b ≡ true → windowNo (e .sta
 lands true e f n p q = p refl
 lands false e f n p q = q
 
-selected-window : (d : Bool) (a : Attributes) (s : State) → isOff s ≡ false → windowNo (rules.selecting (causeBy d) a s .state .window) ≡ if d then 1 else 2
+selected-window : (d : Bool) (a : Attributes) (s : State) → refusedBy (s .window) (causeBy d) ≡ false → windowNo (rules.selecting (causeBy d) a s .state .window) ≡ if d then 1 else 2
 selected-window d a s h =
     let w = movedBy (s .window) (causeBy d) in
     let m = moved-window d (s .window) h in
@@ -302,9 +299,9 @@ asked-window :
     → windowNo (rules.selecting (windowCause c) a s .state .window) ≡ windowValue c
 asked-window c given room a s h =
     let p = early-passed c (lateLines SetWindow c (length given) room a s) refl h in
-    let o = or-none (isOff s) _ (late-passed SetWindow c (length given) room a s (p .later) .window) in
-    selected-window (eqb (windowValue c) 1) a s (o .0)
-    ∙ one-or-two (windowValue c) (eqb (windowValue c) 1) (eqb (windowValue c) 2) refl refl (o .1)
+    let o = late-passed SetWindow c (length given) room a s (p .later) .window in
+    selected-window (eqb (windowValue c) 1) a s (left-false (isOff SetWindow c s) (noWindow SetWindow c) o)
+    ∙ one-or-two (windowValue c) (eqb (windowValue c) 1) (eqb (windowValue c) 2) refl refl (right-false (isOff SetWindow c s) (noWindow SetWindow c) o)
 
 pub window-stored : WindowStored
 window-stored c bytes given room is bytes′ given′ room′ k a h k′ q a′ =

@@ -11,13 +11,13 @@ use Rattle.record.specs.declared.Attributes.{Attributes}
 use Rattle.record.specs.declared.State.{State}
 use Rattle.record.specs.declared.Record.{Record}
 use Rattle.record.specs.declared.Effect.{Effect}
-use Rattle.record.specs.Events.{settled}
+use Rattle.record.specs.Record.{idOf}
+use Rattle.record.specs.Event.{settled}
 use Rattle.replies.specs.Numbers.{tooShort}
 use Rattle.replies.specs.Status.{line, firstOf}
 use Rattle.replies.specs.Answers.{Answer, granted, refused}
 use Rattle.rules.specs.Rules.{still}
-use Rattle.table.specs.Table.{idOf}
-use Rattle.steps.specs.Lists.{first, join}
+use Rattle.octets.specs.Lists.{first, join}
 use Rattle.steps.specs.Items.{Card, Item, One, All, Meaning, Nobody, Everybody, The}
 use Rattle.steps.specs.Meanings.{meaning}
 

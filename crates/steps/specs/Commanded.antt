@@ -1,7 +1,7 @@
--- What a command does and answers where no row of the status table refuses it.
-use mathlib.Core.Bool.{Bool, true, false}
+-- What a command does and answers where no row of the status table refuses it. All else of a command stands in its row of
+-- crates/commands/specs/Shapes.antt: a new command is a row there, and a row here.
 use mathlib.Core.List.{List, [], _∷_, _++_, map}
-use Prim.Native.Nat.{ℕ, _*_}
+use Prim.Native.Nat.{ℕ}
 use lib.ListN.{length}
 use Rattle.octets.specs.Choice.{if_then_else_}
 use Rattle.octets.specs.Octets.{padded}
@@ -9,10 +9,11 @@ use Rattle.record.specs.declared.Attributes.{Attributes}
 use Rattle.record.specs.declared.State.{State}
 use Rattle.record.specs.declared.Record.{Record}
 use Rattle.record.specs.declared.Effect.{Effect}
-use Rattle.record.specs.Window.{byWindow, windowNo}
+use Rattle.record.specs.Record.{idOf}
+use Rattle.record.specs.Windows.{byWindow, windowNo}
 use Rattle.replies.specs.Answers.{Answer, granted}
 use Rattle.rules.specs.Rules as rules
-use Rattle.table.specs.Table.{idOf, listedMarks}
+use Rattle.table.specs.Table.{listedMarks}
 use Rattle.pages.specs.Features.{configIn, configPage}
 use Rattle.pages.specs.Latency.{latencyPage}
 use Rattle.pages.specs.Aggregate.{picked, aggregatePage}
@@ -20,40 +21,83 @@ use Rattle.pages.specs.Identify.{identifyPage}
 use Rattle.commands.specs.declared.Command.{Command}
 use Rattle.commands.specs.declared.Kind.{Kind}
 use Rattle.commands.specs.declared.Kind.the-variants.{SetConfig, SetWindow, GetConfig, GetWindow, ReadLatency, ReadAggregate, Identify}
-use Rattle.steps.specs.Items.{Card, One, View, Meaning, Nobody, The}
-use Rattle.commands.specs.Commands.{dwordSize, featureSet, logSet, enable, windowCause, retain, dwords, offset, asked, kindOf, commandIn}
+use Rattle.commands.specs.Commands.{enable, windowCause, retain, offset, asked, commandIn}
+use Rattle.commands.specs.Shapes.{shapeOf, kindOf, isNamed, namedBy, needsOut}
 use Rattle.commands.specs.StatusTable.{earlyLines, unknownNumber, shortLine, lateLines}
+use Rattle.steps.specs.Items.{Card, One, View, Meaning, Nobody, The}
 
--- ---- commands that name a set
+-- ---- what commands do to the set that they name
+
+abbrev pub Rule : Type 0
+Rule = Command → List ℕ → Attributes → State → Effect
+
+-- 13h, with 512 bytes of data in
+abbrev pub storesConfig : Rule
+storesConfig c given a s = rules.configure (enable c) (configIn given) s
+
+-- 14h
+abbrev pub selectsWindow : Rule
+selectsWindow c given a s = rules.selecting (windowCause c) a s
 
 -- "Any successful read with Retain 0 clears that set's events and listed mark"
-abbrev pub readRule : Command → State → Effect
-readRule c s = if retain c then rules.still s else rules.clearingRead s
+abbrev pub readsPage : Rule
+readsPage c given a s = if retain c then rules.still s else rules.clearingRead s
 
--- what a command does to the set that it names; 0Bh and Identify, which name none, are not asked here: see `viewed`
-abbrev pub ruleBy : Kind → Command → List ℕ → Attributes → State → Effect
-ruleBy SetConfig c given a s = rules.configure (enable c) (configIn given) s
-ruleBy SetWindow c given a s = rules.selecting (windowCause c) a s
-ruleBy GetConfig c given a s = rules.still s
-ruleBy GetWindow c given a s = rules.still s
-ruleBy ReadLatency c given a s = readRule c s
-ruleBy ReadAggregate c given a s = rules.still s
-ruleBy Identify c given a s = rules.still s
+-- "Reading changes nothing."
+abbrev pub changesNothing : Rule
+changesNothing c given a s = rules.still s
+
+-- ---- their dword 0 and pages
 
 -- "enable": 1 while the mode is on
 abbrev pub modeNo : State → ℕ
 modeNo s = byWindow (s .window) 0 1 1
 
+-- the identifiers of the listed sets, "rising" as the sets are
+abbrev pub listedIds : List Record → List ℕ
+listedIds rs = picked (map idOf rs) (listedMarks rs)
+
+abbrev pub aggregateOf : Command → Card → List ℕ
+aggregateOf c card = aggregatePage (listedIds (card .sets))
+
+-- "sets with identifier at or above CDW11 15:0"
+abbrev pub setListOf : Command → Card → List ℕ
+setListOf c card = identifyPage (asked c) (map (λ r. r .attributes) (card .sets))
+
+-- ---- the table
+
+-- of a set that is named: the rule, dword 0, and the page from its record before it is changed ("after the bytes are taken");
+-- of a command that names none: the page from the card
+pub record Doing : Type 0 where
+  pub rule : Rule
+  pub dword : Record → ℕ
+  pub page : Record → List ℕ
+  pub view : Command → Card → List ℕ
+
+abbrev pub onSet : Rule → (Record → ℕ) → (Record → List ℕ) → Doing
+onSet rule dword page = record { rule = rule; dword = dword; page = page; view = λ c card. [] }
+
+abbrev pub onCard : (Command → Card → List ℕ) → Doing
+onCard view = record { rule = changesNothing; dword = λ r. 0; page = λ r. []; view = view }
+
 -- "Get returns enable with the 512 bytes, or the window, in dword 0. Other dword 0 values are zero."
--- A read's bytes are taken from the record before it is cleared. 0Bh and Identify are not asked here: see `viewed`.
-abbrev pub doneBy : Kind → Command → Record → Answer
-doneBy SetConfig c r = granted 0 []
-doneBy SetWindow c r = granted 0 []
-doneBy GetConfig c r = granted (modeNo (r .state)) (configPage (r .state .config))
-doneBy GetWindow c r = granted (windowNo (r .state .window)) []
-doneBy ReadLatency c r = granted 0 (padded (latencyPage r) (offset c) (dwords c * dwordSize))
-doneBy ReadAggregate c r = granted 0 []
-doneBy Identify c r = granted 0 []
+abbrev pub doing : Kind → Doing
+doing SetConfig = onSet storesConfig (λ r. 0) (λ r. [])
+doing SetWindow = onSet selectsWindow (λ r. 0) (λ r. [])
+doing GetConfig = onSet changesNothing (λ r. modeNo (r .state)) (λ r. configPage (r .state .config))
+doing GetWindow = onSet changesNothing (λ r. windowNo (r .state .window)) (λ r. [])
+doing ReadLatency = onSet readsPage (λ r. 0) latencyPage
+doing ReadAggregate = onCard aggregateOf
+doing Identify = onCard setListOf
+
+-- what of a page is handed out: the part that a log read asks for, or all
+abbrev pub askedOf : Kind → Command → List ℕ → List ℕ
+askedOf k c page = if shapeOf k .part then padded page (offset c) (needsOut k c) else page
+
+-- ---- every command
+
+abbrev pub answerOf : Kind → Command → Record → Answer
+answerOf k c r = granted (doing k .dword r) (askedOf k c (doing k .page r))
 
 abbrev pub named : Kind → Command → List ℕ → ℕ → One
 named k c given room =
@@ -61,55 +105,20 @@ named k c given room =
       early = earlyLines c;
       unknown = unknownNumber;
       late = lateLines k c (length given) room;
-      rule = ruleBy k c given;
-      done = doneBy k c;
+      rule = doing k .rule c given;
+      done = answerOf k c;
     }
 
--- whether it names a set, and which: "The items that name a set are events other than ticks, feature commands and reads of 0Ah"
-abbrev pub isNamed : Kind → Bool
-isNamed SetConfig = true
-isNamed SetWindow = true
-isNamed GetConfig = true
-isNamed GetWindow = true
-isNamed ReadLatency = true
-isNamed ReadAggregate = false
-isNamed Identify = false
-
-abbrev pub namedBy : Kind → Command → ℕ
-namedBy SetConfig c = featureSet c
-namedBy SetWindow c = featureSet c
-namedBy GetConfig c = featureSet c
-namedBy GetWindow c = featureSet c
-namedBy ReadLatency c = logSet c
-namedBy ReadAggregate c = 0
-namedBy Identify c = 0
-
--- ---- commands that name none: "Identify and 0Bh name none." "Reading changes nothing."
-
--- the identifiers of the listed sets, "rising" as the sets are
-abbrev pub listedIds : List Record → List ℕ
-listedIds rs = picked (map idOf rs) (listedMarks rs)
-
-abbrev pub viewed : Kind → Command → ℕ → ℕ → (Card → List ℕ) → View
-viewed k c given room page =
-    record { early = λ card. earlyLines c ++ shortLine k c given room ∷ []; done = λ card. granted 0 (page card) }
-
-abbrev pub aggregateOf : Command → Card → List ℕ
-aggregateOf c card = padded (aggregatePage (listedIds (card .sets))) (offset c) (dwords c * dwordSize)
-
-abbrev pub setListOf : Command → Card → List ℕ
-setListOf c card = identifyPage (asked c) (map (λ r. r .attributes) (card .sets))
-
--- ---- every command
+-- "Identify and 0Bh name none." "Reading changes nothing."
+abbrev pub viewed : Kind → Command → ℕ → ℕ → View
+viewed k c given room =
+    record {
+      early = λ card. earlyLines c ++ shortLine k c given room ∷ [];
+      done = λ card. granted 0 (askedOf k c (doing k .view c card));
+    }
 
 abbrev pub meaningBy : Kind → Command → List ℕ → ℕ → Meaning
-meaningBy SetConfig c given room = The (featureSet c) (named SetConfig c given room)
-meaningBy SetWindow c given room = The (featureSet c) (named SetWindow c given room)
-meaningBy GetConfig c given room = The (featureSet c) (named GetConfig c given room)
-meaningBy GetWindow c given room = The (featureSet c) (named GetWindow c given room)
-meaningBy ReadLatency c given room = The (logSet c) (named ReadLatency c given room)
-meaningBy ReadAggregate c given room = Nobody (viewed ReadAggregate c (length given) room (aggregateOf c))
-meaningBy Identify c given room = Nobody (viewed Identify c (length given) room (setListOf c))
+meaningBy k c given room = if isNamed k then The (namedBy k c) (named k c given room) else Nobody (viewed k c (length given) room)
 
 unfoldable pub commandMeaning : List ℕ → List ℕ → ℕ → Meaning
 commandMeaning bytes given room = meaningBy (kindOf (commandIn bytes)) (commandIn bytes) given room

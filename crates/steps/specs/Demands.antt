@@ -15,24 +15,24 @@ use Rattle.octets.specs.Octets.{padded}
 use Rattle.record.specs.declared.Attributes.{Attributes}
 use Rattle.record.specs.declared.State.{State}
 use Rattle.record.specs.declared.Record.{Record}
-use Rattle.record.specs.Events.{bit, anyEnabled}
+use Rattle.record.specs.Record.{idOf}
+use Rattle.record.specs.Event.{bit, anyEnabled}
 use Rattle.replies.specs.Numbers.{success, badTable}
 use Rattle.replies.specs.declared.Reply.{Reply}
 use Rattle.replies.specs.Answers.{Answer, granted, refused, refusing}
-use Rattle.table.specs.Table.{idOf, legalSets, legalTable, written, listedMarks, recordsOf}
+use Rattle.table.specs.Table.{legalSets, legalTable, written, listedMarks, recordsOf}
 use Rattle.pages.specs.Features.{configIn, configPage}
 use Rattle.pages.specs.Aggregate.{picked, aggregatePage}
-use Rattle.steps.specs.Lists.{nth, keep, beside, join}
-use Rattle.steps.specs.Items.{Card, Item, reads, writes, excursion, tick, command, All, View, Meaning, Nobody, Everybody, The}
+use Rattle.octets.specs.Lists.{nth, keep, beside, join}
+use Rattle.steps.specs.Items.{Card, Item, reads, writes, excursion, tick, command, itemOf, All, View, Meaning, Nobody, Everybody, The}
 use Rattle.commands.specs.declared.Kind.{Kind}
 use Rattle.commands.specs.declared.Kind.the-variants.{SetConfig, SetWindow, GetConfig, GetWindow, ReadLatency, ReadAggregate, Identify}
-use Rattle.commands.specs.Commands.{dwordSize, commandIn, kindOf, featureSet, enable, windowValue, offset, dwords}
-use Rattle.steps.specs.Commanded.{isNamed, namedBy}
+use Rattle.commands.specs.Commands.{dwordSize, commandIn, featureSet, enable, windowValue, offset, dwords}
+use Rattle.commands.specs.Shapes.{setOpcode, configFid, hasOpcode, hasChoice, kindOf, isNamed, namedBy}
 use Rattle.steps.specs.Meanings.{meaning}
 use Rattle.steps.specs.Card.{effectOn, ruled, refusalOf, names, answer, step, run, trace}
 use Rattle.steps.specs.Words.{cardOf, stepWords, Answered, Handed}
-use Rattle.steps.specs.declared.Media.{Media}
-use Rattle.steps.specs.Media.{itemOf}
+use Rattle.rules.specs.declared.Media.{Media}
 use Rattle.steps.specs.Rows.{Told, commandRows, eventRows, tickRows}
 use Rattle.steps.specs.SetUp.{newSets, setUpLines, setUpStatus, setUp}
 
@@ -264,13 +264,7 @@ noneOf p (i ∷ is) = not (p i) && noneOf p is
 -- ---- 13h
 
 abbrev pub stores13 : Kind → Bool
-stores13 SetConfig = true
-stores13 SetWindow = false
-stores13 GetConfig = false
-stores13 GetWindow = false
-stores13 ReadLatency = false
-stores13 ReadAggregate = false
-stores13 Identify = false
+stores13 k = hasOpcode setOpcode k && hasChoice configFid k
 
 -- a Set Features 13h that names a set, carried out or refused
 abbrev pub configures : ℕ → Item → Bool

@@ -6,6 +6,8 @@ use Rattle.record.specs.declared.State.{State}
 use Rattle.record.specs.declared.Record.{Record}
 use Rattle.record.specs.declared.Effect.{Effect}
 use Rattle.replies.specs.Status.{Line}
+use Rattle.rules.specs.declared.Media.{Media}
+use Rattle.rules.specs.declared.Media.the-variants.{Reads, Writes, Excursion}
 pub use Rattle.table.specs.Card.{Card}
 use Rattle.replies.specs.Answers.{Answer}
 
@@ -17,6 +19,12 @@ pub data Item : Type 0 where
   excursion : (id : ℕ) → Item
   tick : (t room : ℕ) → Item
   command : (bytes given : List ℕ) (room : ℕ) → Item
+
+-- what the media layer reports of a set, as an item
+abbrev pub itemOf : ℕ → Media → Item
+itemOf id (Reads k) = reads id k
+itemOf id (Writes k) = writes id k
+itemOf id Excursion = excursion id
 
 -- An item that names a set: the refusals before the look-up, the number for a set that is not in the table, the refusals
 -- that look at the set; then what it does to the set, and what it answers.

@@ -1,13 +1,9 @@
-pub mod Lists
 pub mod Items
 pub mod Commanded
 pub mod Meanings
 pub mod Card
 pub mod Rows
 pub mod Words
-pub mod OnSet
-pub mod Views
-pub mod Media
 pub mod SetUp
 pub mod Order
 pub mod Demands

@@ -14,10 +14,10 @@ use Rattle.record.specs.Legal.{dayMs}
 use Rattle.replies.specs.Numbers.{success, badTable, invalidField, tooEarly, unknownSet, tickTooLong}
 use Rattle.replies.specs.Status.{Line, line, firstOf}
 use Rattle.table.specs.Table.{recordsOf, legalTable}
-use Rattle.commands.specs.Commands.{commandIn, kindOf}
+use Rattle.commands.specs.Commands.{commandIn}
+use Rattle.commands.specs.Shapes.{kindOf, isNamed, namedBy}
 use Rattle.commands.specs.StatusTable.{lengthRow, opcodeRow, choiceRow, pageRow, saveRow, partRow, windowWrong, shortLine, selectsEarly}
-use Rattle.steps.specs.Lists.{first}
-use Rattle.steps.specs.Commanded.{isNamed, namedBy}
+use Rattle.octets.specs.Lists.{first}
 use Rattle.steps.specs.Card.{has}
 
 -- the set with an identifier, if the words have one

@@ -1,6 +1,6 @@
 -- 01, set-up: "the core first takes the 84-byte bodies below". One definition, apart from the step.
 use mathlib.Core.Path.{_≡_}
-use mathlib.Core.Bool.{Bool, false, not, _&&_}
+use mathlib.Core.Bool.{false, not}
 use mathlib.Core.List.{List, [], _∷_, map}
 use Prim.Native.Nat.{ℕ, zero, suc, _+_, _/_, _%_}
 use lib.Dec.{ltb, eqb}
@@ -11,13 +11,13 @@ use Rattle.record.specs.declared.Attributes.{Attributes}
 use Rattle.record.specs.declared.State.{State}
 use Rattle.record.specs.declared.Record.{Record}
 use Rattle.record.specs.Record.{stateOf}
-use Rattle.record.specs.Events.{noEvents}
-use Rattle.record.specs.Legal.{maxSets, inRange, legalAttributes}
+use Rattle.record.specs.Event.{noEvents}
+use Rattle.record.specs.Legal.{inRange}
 use Rattle.replies.specs.Numbers.{tooShort, badSetUp}
 use Rattle.replies.specs.Status.{Line, line, firstOf}
 use Rattle.replies.specs.Answers.{granted, refused}
 use Rattle.table.specs.Card.{Card}
-use Rattle.table.specs.Table.{rowStart, legalSets, written}
+use Rattle.table.specs.Table.{rowStart, legalSets, written, maxSets}
 use Rattle.pages.specs.Bodies.{bodySize, attributesIn}
 use Rattle.steps.specs.Words.{Result}
 
@@ -40,10 +40,6 @@ attributesFrom bytes at (suc n) = attributesIn bytes at ∷ attributesFrom bytes
 
 abbrev pub bodies : List ℕ → ℕ
 bodies bytes = length bytes / bodySize
-
--- attributes in range, the identifier above the one before: only for the function that tests one body
-abbrev pub followsOf : ℕ → Attributes → Bool
-followsOf before a = legalAttributes a && ltb before (a .id .0)
 
 -- the sets that the bodies make
 unfoldable pub newSets : List ℕ → List Record

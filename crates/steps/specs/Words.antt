@@ -4,9 +4,11 @@ use mathlib.Core.List.{List}
 use Prim.Native.Nat.{ℕ, _≤_}
 use lib.ListN.{length}
 use Rattle.octets.specs.Choice.{if_then_else_}
-use Rattle.replies.specs.Numbers.{badTable}
+use Rattle.replies.specs.Numbers.{success, badTable}
 use Rattle.replies.specs.declared.Reply.{Reply}
 use Rattle.replies.specs.Answers.{Answer, refused, Replied}
+use Rattle.table.specs.declared.Entry.{Entry}
+use Rattle.table.specs.declared.Entry.the-variants.{Bad, Unknown, Here}
 use Rattle.table.specs.Table.{legalTable, written}
 pub use Rattle.table.specs.Table.{cardOf}
 use Rattle.steps.specs.Items.{Item}
@@ -23,6 +25,13 @@ stepWords ws i =
     if legalTable ws
     then record { table = written ws (step (cardOf ws) i .card); answer = step (cardOf ws) i .answer }
     else record { table = ws; answer = refused badTable }
+
+-- "table not legal" and "set not in the table", as the way in to an item tells them: the number for each case, where the item's own is
+-- that of a set which is not there
+abbrev pub entryNo : ℕ → Entry → ℕ
+entryNo unknown Bad = badTable
+entryNo unknown Unknown = unknown
+entryNo unknown (Here slot) = success
 
 -- What every item promises: the words that it leaves, its reply (status, dword 0 and length of data), and every byte of the answer
 -- buffer. A media event has no buffer: [] before and after.

@@ -8,4 +8,4 @@ after-event-spec =
     (tie.spec
     (λ c κs. search needs)
     (λ c κs. search needs)
-    (λ c. simp (c .settle .ensures, c .before .effect-of .ensures)))
+    (λ c. simp (c .settle .ensures, c .before .media-event .ensures)))

@@ -1,5 +1,9 @@
+use mathlib.Core.Path.{ap, _∙_}
 use borrow.Author.Needs.{needs}
-use Rattle.steps.proofs.Events.{entered, event-bad, event-unknown, event-here}
+use Rattle.replies.specs.Numbers.{unknownSet}
+use Rattle.replies.specs.Answers.{refusing}
+use Rattle.steps.specs.Words.{entryNo}
+use Rattle.by_value.proofs.EventsAndTicks.{entered, event-bad, event-unknown, event-here}
 use Rattle.card.proofs.media.event.Statement.{statement}
 use Rattle.card.proofs.media.event.Tie as tie
 
@@ -10,7 +14,9 @@ event-spec =
     (λ c κs. search needs)
     (λ c. search needs)
     (λ c κs. search needs)
+    (λ c κs. search needs)
     (λ c. search needs)
+    (λ c κs. search needs)
     (λ c κs. search needs)
     (λ c. search needs)
     (λ c κs. let m = c .before .before in entered _ _ _ _ (m .before .before .enter .ensures) (m .e .given .1))
@@ -18,9 +24,15 @@ event-spec =
     (λ c κs. let m = c .before .before .before .before .before in entered _ _ _ _ (m .before .before .enter .ensures) (m .e .given .1))
     (λ c κs. search needs)
     (λ c. search needs)
-    (λ c. let p = c .before .before .before in event-bad _ _ (p .before .before .before .args .m) _ (p .enter .ensures) _ (c .before .enum-told .given .1) (c .refuse .ensures))
+    (λ c.
+    let e = c .before .before .enum-told .given .1 in
+    let p = c .before .before .before .before in
+    event-bad _ _ (p .before .before .before .args .m) _ (p .enter .ensures) _ e (c .refuse .ensures ∙ ap refusing (c .before .entry-no .ensures ∙ ap (entryNo unknownSet) e)))
     (λ c. search needs)
-    (λ c. let p = c .before .before .before in event-unknown _ _ (p .before .before .before .args .m) _ (p .enter .ensures) _ (c .before .enum-told2 .given .1) (c .refuse2 .ensures))
+    (λ c.
+    let e = c .before .before .enum-told2 .given .1 in
+    let p = c .before .before .before .before in
+    event-unknown _ _ (p .before .before .before .args .m) _ (p .enter .ensures) _ e (c .refuse2 .ensures ∙ ap refusing (c .before .entry-no2 .ensures ∙ ap (entryNo unknownSet) e)))
     (λ c. search needs)
     (λ c.
     let t = c .before .before .before in

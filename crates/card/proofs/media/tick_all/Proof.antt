@@ -5,7 +5,7 @@ use borrow.Author.Needs.{needs}
 use lib.ListN.{length}
 use Rattle.table.specs.Table.{recordsOf, writtenRows}
 use Rattle.table.proofs.Written.{leftToDo, all-start, all-end, all-again}
-use Rattle.steps.specs.Media.{tickOne}
+use Rattle.by_value.specs.Ticks.{tickOne}
 use Rattle.card.proofs.media.tick_all.Statement.{statement}
 use Rattle.card.proofs.media.tick_all.Tie as tie
 

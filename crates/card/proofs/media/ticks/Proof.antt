@@ -1,8 +1,8 @@
 use mathlib.Core.Path.{sym, _∙_}
 use native.Mathlib.Omega.{arith}
 use borrow.Author.Needs.{needs}
-use Rattle.table.proofs.Known.{legal-known}
-use Rattle.steps.proofs.Events.{bad, tick-long, tick-done}
+use Rattle.table.proofs.LegalTables.{legal-known}
+use Rattle.by_value.proofs.EventsAndTicks.{bad, tick-long, tick-done}
 use Rattle.card.proofs.media.ticks.Statement.{statement}
 use Rattle.card.proofs.media.ticks.Tie as tie
 

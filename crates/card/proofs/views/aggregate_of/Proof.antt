@@ -1,5 +1,5 @@
 use borrow.Author.Needs.{needs}
-use Rattle.steps.proofs.Whole.{lent, aggregate-is}
+use Rattle.by_value.proofs.WholeCard.{lent, aggregate-is}
 use Rattle.card.proofs.views.aggregate_of.Statement.{statement}
 use Rattle.card.proofs.views.aggregate_of.Tie as tie
 

@@ -4,12 +4,12 @@ use native.Mathlib.Omega.{arith}
 use borrow.Author.Needs.{needs}
 use lib.ListN.{length}
 use Rattle.table.specs.Table.{count}
-use Rattle.steps.proofs.Whole.{Going, going-start, going-room, going-on, going-end}
+use Rattle.by_value.proofs.WholeCard.{Going, going-start, going-room, going-on, going-end}
 use Rattle.card.proofs.views.show_all.Statement.{statement}
 use Rattle.card.proofs.views.show_all.Tie as tie
 
 abbrev Inv-loop : tie.InvT-loop
-Inv-loop page₀ table from n to₀ i₀ page to i = (i ≤ n) × (length page ≡ length page₀) × ((e : n ≡ count table) → Going page₀ table from n e page to i)
+Inv-loop page₀ table from n to₀ i₀ page to i = (i ≤ n) × (length page ≡ length page₀) × ((e : n ≡ count table) → Going page₀ table (from .0) n e page to i)
 
 abbrev μ-loop : tie.MeasureT-loop
 μ-loop page₀ table from n to₀ i₀ page to i = n - i
@@ -21,12 +21,12 @@ show-all-spec =
     Inv-loop
     μ-loop
     (λ c κs. search needs)
-    (λ c. let s = c .before .before .before in (search needs, search needs, λ e. going-start (s .args .page .now) (s .args .table .now) (s .args .from) _ e (s .pre .1)))
+    (λ c. let s = c .before .before .before in (search needs, search needs, λ e. going-start (s .args .page .now) (s .args .table .now) (s .args .from .0) _ e (s .pre .1)))
     (λ c κs.
     let l = c .before .before .loop in
     let n = c .before .before .before in
     let s = n .before .before .before in
-    let g = going-room (s .args .page .now) (s .args .table .now) (s .args .from) _ (n .count-of .ensures) (l .page) (l .to) (l .i) (c .before .loop-test .taken) (l .inv .2 (n .count-of .ensures)) in
+    let g = going-room (s .args .page .now) (s .args .table .now) (s .args .from .0) _ (n .count-of .ensures) (l .page) (l .to) (l .i) (c .before .loop-test .taken) (l .inv .2 (n .count-of .ensures)) in
     (g, omega (arith, s .pre .0 .room, n .count-of .ensures, c .before .loop-test .taken)))
     (λ c. search needs)
     (λ c. search needs)
@@ -35,11 +35,11 @@ show-all-spec =
     let t = h .before .before in
     let l = t .before .loop in
     let s = t .before .before .before .before .before in
-    (search needs, search needs, λ e. going-on (s .args .page .now) (s .args .table .now) (s .args .from) _ e (l .page) (l .to) (l .i) (t .loop-test .taken) (l .inv .2 e) _ _ (h .show-slot .ensures)))
+    (search needs, search needs, λ e. going-on (s .args .page .now) (s .args .table .now) (s .args .from .0) _ e (l .page) (l .to) (l .i) (t .loop-test .taken) (l .inv .2 e) _ _ (h .show-slot .ensures)))
     (λ c. search needs)
     (λ c.
     let l = c .before .loop in
     let n = c .before .before in
     let s = n .before .before .before in
     let e = n .count-of .ensures in
-    going-end (s .args .page .now) (s .args .table .now) (s .args .from) _ e (l .page) (l .to) (l .i) (c .loop-test .left) (l .inv .2 e)))
+    going-end (s .args .page .now) (s .args .table .now) (s .args .from .0) _ e (l .page) (l .to) (l .i) (c .loop-test .left) (l .inv .2 e)))

@@ -1,10 +1,10 @@
 use Prim.Native.Nat.{ℕ, _-_}
 use native.Mathlib.Omega.{arith}
 use borrow.Author.Needs.{needs}
-use Rattle.steps.specs.Media.{tickOne}
-use Rattle.table.proofs.Known.{length-records}
+use Rattle.by_value.specs.Ticks.{tickOne}
+use Rattle.table.proofs.LegalTables.{length-records}
 use Rattle.region.proofs.Words.{length-in}
-use Rattle.region.proofs.Rows.{Undone, undone-start, undone-legal, undone-turn, undone-all}
+use Rattle.region.proofs.EveryRow.{Undone, undone-start, undone-legal, undone-turn, undone-all}
 use Rattle.region.specs.Region.{tableIn}
 use Rattle.card_c.proofs.media.tick_all.Statement.{statement}
 use Rattle.card_c.proofs.media.tick_all.Tie as tie

@@ -3,11 +3,11 @@ use Prim.Native.Nat.{ℕ}
 use native.Mathlib.Omega.{arith}
 use borrow.Author.Needs.{needs}
 use lib.ListN.{length}
-use Rattle.table.proofs.Known.{legal-known}
+use Rattle.table.proofs.LegalTables.{legal-known}
 use Rattle.region.specs.Region.{tableIn}
 use Rattle.region.proofs.Words.{length-in}
 use Rattle.steps.specs.Items.{tick}
-use Rattle.steps.proofs.Events.{bad, tick-long, tick-done}
+use Rattle.by_value.proofs.EventsAndTicks.{bad, tick-long, tick-done}
 use Rattle.card_c.proofs.Region.{answer-out, answer-same}
 use Rattle.card_c.proofs.media.ticks.Statement.{statement}
 use Rattle.card_c.proofs.media.ticks.Tie as tie

@@ -18,4 +18,4 @@ put-whole-spec =
     let w = q .before in
     let f = w .before .before .before .before in
     let a = f .before .before .before .args in
-    simp (p .put3 .ensures, q .put2 .ensures, w .wide .ensures, f .put .ensures) (whole (a .reply .now) (a .dword) (a .len))))
+    simp (p .put3 .ensures, q .put2 .ensures, w .from-size .ensures, f .put .ensures) (whole (a .reply .now) (a .dword) (a .len))))

@@ -14,4 +14,4 @@ reply-page-spec =
     (λ c. search needs)
     (λ c. search needs)
     (λ c κs. search needs)
-    (λ c. c .before .fill .ensures ∙ rw (c .before .before .before .before .wide .ensures) (placed 16 _)))
+    (λ c. c .before .fill .ensures ∙ rw (c .before .before .before .before .from-size .ensures) (placed 16 _)))

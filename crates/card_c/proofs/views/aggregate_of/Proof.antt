@@ -1,7 +1,7 @@
 use native.Mathlib.Omega.{arith}
 use Rattle.region.proofs.Words.{length-in}
 use borrow.Author.Needs.{needs}
-use Rattle.steps.proofs.Whole.{lent, aggregate-is}
+use Rattle.by_value.proofs.WholeCard.{lent, aggregate-is}
 use Rattle.region.specs.Region.{tableIn}
 use Rattle.card_c.proofs.views.aggregate_of.Statement.{statement}
 use Rattle.card_c.proofs.views.aggregate_of.Tie as tie

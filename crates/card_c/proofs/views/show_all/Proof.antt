@@ -5,13 +5,13 @@ use native.Mathlib.Omega.{arith}
 use borrow.Author.Needs.{needs}
 use lib.ListN.{length}
 use Rattle.table.specs.Table.{count}
-use Rattle.steps.proofs.Whole.{Going, going-start, going-room, going-on, going-end}
+use Rattle.by_value.proofs.WholeCard.{Going, going-start, going-room, going-on, going-end}
 use Rattle.region.specs.Region.{tableIn}
 use Rattle.card_c.proofs.views.show_all.Statement.{statement}
 use Rattle.card_c.proofs.views.show_all.Tie as tie
 
 abbrev Inv-loop : tie.InvT-loop
-Inv-loop page₀ region from n to₀ i₀ page to i = (i ≤ n) × (length page ≡ length page₀) × ((e : n ≡ count (tableIn region)) → Going page₀ (tableIn region) from n e page to i)
+Inv-loop page₀ region from n to₀ i₀ page to i = (i ≤ n) × (length page ≡ length page₀) × ((e : n ≡ count (tableIn region)) → Going page₀ (tableIn region) (from .0) n e page to i)
 
 abbrev μ-loop : tie.MeasureT-loop
 μ-loop page₀ region from n to₀ i₀ page to i = n - i
@@ -23,12 +23,12 @@ show-all-spec =
     Inv-loop
     μ-loop
     (λ c κs. let s = c .before .before in omega (arith, s .pre .0 .some, s .pre .0 .room, length-in (s .args .region .now)))
-    (λ c. let s = c .before .before .before in (search needs, search needs, λ e. going-start (s .args .page .now) (tableIn (s .args .region .now)) (s .args .from) _ e (s .pre .1)))
+    (λ c. let s = c .before .before .before in (search needs, search needs, λ e. going-start (s .args .page .now) (tableIn (s .args .region .now)) (s .args .from .0) _ e (s .pre .1)))
     (λ c κs.
     let l = c .before .before .loop in
     let n = c .before .before .before in
     let s = n .before .before .before in
-    let g = going-room (s .args .page .now) (tableIn (s .args .region .now)) (s .args .from) _ (n .count-of .ensures) (l .page) (l .to) (l .i) (c .before .loop-test .taken) (l .inv .2 (n .count-of .ensures)) in
+    let g = going-room (s .args .page .now) (tableIn (s .args .region .now)) (s .args .from .0) _ (n .count-of .ensures) (l .page) (l .to) (l .i) (c .before .loop-test .taken) (l .inv .2 (n .count-of .ensures)) in
     (g, omega (arith, s .pre .0 .room, n .count-of .ensures, c .before .loop-test .taken, length-in (s .args .region .now))))
     (λ c. search needs)
     (λ c. search needs)
@@ -37,11 +37,11 @@ show-all-spec =
     let t = h .before .before in
     let l = t .before .loop in
     let s = t .before .before .before .before .before in
-    (search needs, search needs, λ e. going-on (s .args .page .now) (tableIn (s .args .region .now)) (s .args .from) _ e (l .page) (l .to) (l .i) (t .loop-test .taken) (l .inv .2 e) _ _ (h .show-slot .ensures)))
+    (search needs, search needs, λ e. going-on (s .args .page .now) (tableIn (s .args .region .now)) (s .args .from .0) _ e (l .page) (l .to) (l .i) (t .loop-test .taken) (l .inv .2 e) _ _ (h .show-slot .ensures)))
     (λ c. search needs)
     (λ c.
     let l = c .before .loop in
     let n = c .before .before in
     let s = n .before .before .before in
     let e = n .count-of .ensures in
-    going-end (s .args .page .now) (tableIn (s .args .region .now)) (s .args .from) _ e (l .page) (l .to) (l .i) (c .loop-test .left) (l .inv .2 e)))
+    going-end (s .args .page .now) (tableIn (s .args .region .now)) (s .args .from .0) _ e (l .page) (l .to) (l .i) (c .loop-test .left) (l .inv .2 e)))

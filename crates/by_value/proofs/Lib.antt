@@ -1,0 +1,7 @@
+pub mod Passed
+pub mod OnOneSet
+pub mod NamedCommands
+pub mod WholeCard
+pub mod Viewed
+pub mod EventsAndTicks
+pub mod Bodies

@@ -1,0 +1,4 @@
+pub mod OnSet
+pub mod Views
+pub mod Ticks
+pub mod SetUp

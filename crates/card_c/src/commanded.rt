@@ -1,0 +1,190 @@
+// What a command does and answers, on the table where it lies.
+ghost use mathlib.Core.Path.{_≡_};
+ghost use mathlib.Core.Bool.{true, false};
+ghost use mathlib.Core.List.{List};
+ghost use Prim.Native.Nat.{ℕ, _≤_};
+ghost use lib.ListN.{length};
+ghost use Rattle.replies.specs.Status.{firstOf};
+ghost use Rattle.commands.specs.declared.Kind.{Kind};
+ghost use Rattle.commands.specs.Shapes.{kindOf, isNamed, namedBy, needsIn};
+ghost use Rattle.commands.specs.StatusTable.{earlyLines};
+ghost use Rattle.region.specs.Region.{tableIn, recordAt, withRecord, LegalAt};
+ghost use Rattle.steps.specs.Items.{Item, The, Nobody};
+ghost use Rattle.steps.specs.Commanded.{named, viewed};
+ghost use Rattle.steps.specs.Meanings.{meaning};
+ghost use Rattle.steps.specs.Words.{Answered};
+ghost use Rattle.by_value.specs.OnSet.{afterOn};
+ghost use Rattle.card_c.specs.InPlace.{AnswerAtC, OnSetAtC};
+use crate::views::aggregate_of;
+use crate::views::set_list_onto;
+use by_value::commanded::after_clearing;
+use by_value::commanded::after_config;
+use by_value::commanded::after_window;
+use by_value::commanded::hand_by;
+use by_value::commanded::status_on;
+use by_value::entry::entry_no;
+use commands::Command;
+use commands::Kind;
+use commands::asked_by;
+use commands::command_in;
+use commands::offset_of;
+use commands::retains;
+use commands::shapes::is_named;
+use commands::shapes::kind_of;
+use commands::shapes::named_by;
+use commands::shapes::needs_out;
+use commands::status_table::early_status;
+use commands::status_table::unknown_status;
+use commands::status_table::view_status;
+use pages::identify::IDENTIFY_SIZE;
+use record::Record;
+use record::Slot;
+use replies::Reply;
+use replies::done;
+use replies::give;
+use replies::numbers::BAD_TABLE;
+use replies::refuse;
+use table::Entry;
+
+// `early` is the number of the first row before the look-up that holds, or 0: it is asked once.
+
+// A read of page 0Ah: with Retain nothing is stored.
+fn read_at(region: &mut [u8], slot: Slot, c: Command, r: Record)
+    requires { ⌜ LegalAt (now region) (slot .0) × (r ≡ recordAt (now region) (slot .0)) ⌝ }
+    ensures { λ _. ⌜ ((given : List ℕ) → now (region .exit) ≡ withRecord (now (region .entry)) (slot .0) (afterOn Kind.ReadLatency c given r)) ⌝ }
+{
+    if retains(c) {
+        return;
+    }
+    region::store_moved(region, slot, after_clearing(r));
+}
+
+// The record of a slot after a command that is carried out. Each kind stores by itself, and only what it can change.
+fn change(region: &mut [u8], slot: Slot, k: Kind, c: Command, given: &[u8], r: Record)
+    requires { ⌜ LegalAt (now region) (slot .0) × (r ≡ recordAt (now region) (slot .0)) × (needsIn k ≤ length (now given)) ⌝ }
+    ensures { λ _. ⌜ now (region .exit) ≡ withRecord (now (region .entry)) (slot .0) (afterOn k c (now (given .entry)) r) ⌝ }
+{
+    match k {
+        Kind::SetConfig => region::store(region, slot, after_config(r, c, given)),
+        Kind::SetWindow => region::store_moved(region, slot, after_window(r, c)),
+        Kind::GetConfig => {}
+        Kind::GetWindow => {}
+        Kind::ReadLatency => read_at(region, slot, c, r),
+        Kind::ReadAggregate => {}
+        Kind::Identify => {}
+    }
+}
+
+// A command that names a set, which was found.
+fn answer_set(
+    region: &mut [u8],
+    slot: Slot,
+    k: Kind,
+    c: Command,
+    early: u16,
+    given: &[u8],
+    answer: &mut [u8],
+) -> Reply
+    requires { ⌜ (k ≡ kindOf c) × (isNamed k ≡ true) × (early ≡ firstOf (earlyLines c)) × LegalAt (now region) (slot .0) ⌝ }
+    ensures { λ r. ⌜ OnSetAtC (now (region .entry)) (slot .0) k c (now (given .entry)) (now (answer .entry)) r (now (region .exit)) (now (answer .exit)) ⌝ }
+{
+    let r = region::load(region, slot);
+    let status = status_on(early, k, c, given.len(), answer.len(), r);
+    if status == 0 {
+        change(region, slot, k, c, given, r);
+        hand_by(k, c, r, answer)
+    } else {
+        refuse(status)
+    }
+}
+
+// A command that names a set.
+fn answer_named(
+    region: &mut [u8],
+    k: Kind,
+    c: Command,
+    early: u16,
+    given: &[u8],
+    answer: &mut [u8],
+) -> Reply
+    requires { ⌜ (k ≡ kindOf c) × (isNamed k ≡ true) × (early ≡ firstOf (earlyLines c)) ⌝ }
+    ensures { λ r. ⌜ ((i : Item) → meaning i ≡ The (namedBy k c) (named k c (now (given .entry)) (length (now (answer .entry)))) → AnswerAtC (now (region .entry)) i (now (answer .entry)) r (now (region .exit)) (now (answer .exit))) ⌝ }
+{
+    let e = region::enter(region, named_by(k, c));
+    match e {
+        Entry::Bad => refuse(entry_no(unknown_status(early, c), e)),
+        Entry::Unknown => refuse(entry_no(unknown_status(early, c), e)),
+        Entry::Here(slot) => answer_set(region, slot, k, c, early, given, answer),
+    }
+}
+
+// Page 0Bh. Reading changes nothing.
+fn answer_aggregate(region: &[u8], c: Command, early: u16, given: usize, answer: &mut [u8]) -> Reply
+    requires { ⌜ (Kind.ReadAggregate ≡ kindOf c) × (early ≡ firstOf (earlyLines c)) ⌝ }
+    ensures { λ r. ⌜ ((i : Item) → meaning i ≡ Nobody (viewed Kind.ReadAggregate c given (length (now (answer .entry)))) → Answered (tableIn (now (region .entry))) i (now (answer .entry)) r (tableIn (now (region .entry))) (now (answer .exit))) ⌝ }
+{
+    if region::legal(region) {
+        let status = view_status(early, Kind::ReadAggregate, c, given, answer.len());
+        let page = aggregate_of(region);
+        let from = offset_of(c) as usize;
+        let n = needs_out(Kind::ReadAggregate, c) as usize;
+        replies::hand_out(status, 0, &page, from, n, answer)
+    } else {
+        refuse(BAD_TABLE)
+    }
+}
+
+// Identify 04h: the whole page, written straight into the answer.
+fn answer_identify(region: &[u8], c: Command, early: u16, given: usize, answer: &mut [u8]) -> Reply
+    requires { ⌜ (Kind.Identify ≡ kindOf c) × (early ≡ firstOf (earlyLines c)) ⌝ }
+    ensures { λ r. ⌜ ((i : Item) → meaning i ≡ Nobody (viewed Kind.Identify c given (length (now (answer .entry)))) → Answered (tableIn (now (region .entry))) i (now (answer .entry)) r (tableIn (now (region .entry))) (now (answer .exit))) ⌝ }
+{
+    if region::legal(region) {
+        let status = view_status(early, Kind::Identify, c, given, answer.len());
+        if status == 0 {
+            set_list_onto(region, asked_by(c), answer);
+            give(0, IDENTIFY_SIZE)
+        } else {
+            refuse(status)
+        }
+    } else {
+        refuse(BAD_TABLE)
+    }
+}
+
+// A command that names no set.
+fn answer_view(
+    region: &[u8],
+    k: Kind,
+    c: Command,
+    early: u16,
+    given: usize,
+    answer: &mut [u8],
+) -> Reply
+    requires { ⌜ (k ≡ kindOf c) × (isNamed k ≡ false) × (early ≡ firstOf (earlyLines c)) ⌝ }
+    ensures { λ r. ⌜ ((i : Item) → meaning i ≡ Nobody (viewed k c given (length (now (answer .entry)))) → Answered (tableIn (now (region .entry))) i (now (answer .entry)) r (tableIn (now (region .entry))) (now (answer .exit))) ⌝ }
+{
+    match k {
+        Kind::SetConfig => done(),
+        Kind::SetWindow => done(),
+        Kind::GetConfig => done(),
+        Kind::GetWindow => done(),
+        Kind::ReadLatency => done(),
+        Kind::ReadAggregate => answer_aggregate(region, c, early, given, answer),
+        Kind::Identify => answer_identify(region, c, early, given, answer),
+    }
+}
+
+// Any command: its 64 bytes, its data in, and the buffer for its answer.
+pub(crate) fn command(region: &mut [u8], bytes: &[u8], given: &[u8], answer: &mut [u8]) -> Reply
+    ensures { λ r. ⌜ AnswerAtC (now (region .entry)) (Item.command (now (bytes .entry)) (now (given .entry)) (length (now (answer .entry)))) (now (answer .entry)) r (now (region .exit)) (now (answer .exit)) ⌝ }
+{
+    let c = command_in(bytes);
+    let k = kind_of(c);
+    let early = early_status(k, c);
+    if is_named(k) {
+        answer_named(region, k, c, early, given, answer)
+    } else {
+        answer_view(region, k, c, early, given.len(), answer)
+    }
+}

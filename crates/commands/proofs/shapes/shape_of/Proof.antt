@@ -1,0 +1,29 @@
+use borrow.Author.Needs.{needs}
+use Rattle.commands.proofs.shapes.shape_of.Statement.{statement}
+use Rattle.commands.proofs.shapes.shape_of.Tie as tie
+
+pub shape-of-spec : {M : Type 1} → statement M
+shape-of-spec =
+    tie.close
+    (tie.spec
+    (λ c. search needs)
+    (λ c κs. search needs)
+    (λ c. search needs)
+    (λ c κs. search needs)
+    (λ c. search needs)
+    (λ c κs. search needs)
+    (λ c. search needs)
+    (λ c κs. search needs)
+    (λ c. search needs)
+    (λ c κs. search needs)
+    (λ c. search needs)
+    (λ c κs. search needs)
+    (λ c. search needs)
+    (λ c κs. search needs)
+    (λ c. simp (c .shape .ensures, c .before .enum-told .given .1))
+    (λ c. simp (c .shape2 .ensures, c .before .enum-told2 .given .1))
+    (λ c. simp (c .shape3 .ensures, c .before .enum-told3 .given .1))
+    (λ c. simp (c .shape4 .ensures, c .before .enum-told4 .given .1))
+    (λ c. simp (c .shape5 .ensures, c .before .enum-told5 .given .1))
+    (λ c. simp (c .shape6 .ensures, c .before .enum-told6 .given .1))
+    (λ c. simp (c .shape7 .ensures, c .before .enum-told7 .given .1)))
