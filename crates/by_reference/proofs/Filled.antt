@@ -81,37 +81,37 @@ bodies-suc list i h =
 pub record Filled (room : ℕ) (list : List Attributes) (i : ℕ) (bytes : List ℕ) : Type 0 where
   pub long : length bytes ≡ room
   pub within : i ≤ length list
-  pub held : firstBodies bytes i ≡ bodiesOf (take (min i (bodies bytes)) list)
+  pub laid : firstBodies bytes i ≡ bodiesOf (take (min i (bodies bytes)) list)
 
 module _ (room : ℕ) (list : List Attributes) where
   pub filled-none : (bytes : List ℕ) → length bytes ≡ room → Filled room list 0 bytes
-  filled-none bytes e = record { long = e; within = omega arith; held = let z : min 0 (bodies bytes) ≡ 0 = omega arith in rw z }
+  filled-none bytes e = record { long = e; within = omega arith; laid = let z : min 0 (bodies bytes) ≡ 0 = omega arith in rw z }
 
   module _ (i : ℕ) (bytes : List ℕ) (g : Filled room list i bytes) (h : i < length list) where
     abbrev a : Attributes
     a = getD list i blank
 
-    abbrev Held : List ℕ → Type 0
-    Held after = firstBodies after (suc i) ≡ bodiesOf (take (min (suc i) (bodies after)) list)
+    abbrev Laid : List ℕ → Type 0
+    Laid after = firstBodies after (suc i) ≡ bodiesOf (take (min (suc i) (bodies after)) list)
 
-    put : i < bodies bytes → Held (sets bytes (i * bodySize) (body a))
+    put : i < bodies bytes → Laid (sets bytes (i * bodySize) (body a))
     put l =
         let near : i * bodySize + length (body a) ≤ length bytes = rw (body-length a) (omega arith) in
         let here : min i (bodies bytes) ≡ i = omega arith in
         let next : min (suc i) (bodies bytes) ≡ suc i = omega arith in
         let front : length (take (i * bodySize) bytes ++ body a) ≡ suc i * bodySize = length-append (take (i * bodySize) bytes) (body a) ∙ rw (body-length a, length-take-le (i * bodySize) bytes (omega arith)) (omega arith) in
         rw (length-sets bytes (i * bodySize) (body a), next, sets-eq (body a) bytes (i * bodySize) near)
-        (take-at (take (i * bodySize) bytes ++ body a) _ (suc i * bodySize) front ∙ sym (bodies-suc list i h ∙ ap (λ (z : List ℕ). z ++ body a) (sym (rw here at (g .held)))))
+        (take-at (take (i * bodySize) bytes ++ body a) _ (suc i * bodySize) front ∙ sym (bodies-suc list i h ∙ ap (λ (z : List ℕ). z ++ body a) (sym (rw here at (g .laid)))))
 
-    kept : bodies bytes ≤ i → Held bytes
-    kept l = let same : min (suc i) (bodies bytes) ≡ min i (bodies bytes) = omega arith in rw same (g .held)
+    kept : bodies bytes ≤ i → Laid bytes
+    kept l = let same : min (suc i) (bodies bytes) ≡ min i (bodies bytes) = omega arith in rw same (g .laid)
 
-    held-by : (b : Bool) → ltb i (bodies bytes) ≡ b → Held (if b then sets bytes (i * bodySize) (body a) else bytes)
-    held-by true e = put (ltb-true i (bodies bytes) e)
-    held-by false e = kept (ltb-false i (bodies bytes) e)
+    laid-by : (b : Bool) → ltb i (bodies bytes) ≡ b → Laid (if b then sets bytes (i * bodySize) (body a) else bytes)
+    laid-by true e = put (ltb-true i (bodies bytes) e)
+    laid-by false e = kept (ltb-false i (bodies bytes) e)
 
     pub filled-more : (after : List ℕ) → length after ≡ length bytes → after ≡ withBody bytes i a → Filled room list (i + 1) after
-    filled-more after l e = record { long = l ∙ g .long; within = omega arith; held = rw (add-one, e) (held-by (ltb i (bodies bytes)) refl) }
+    filled-more after l e = record { long = l ∙ g .long; within = omega arith; laid = rw (add-one, e) (laid-by (ltb i (bodies bytes)) refl) }
 
 -- ---- more sets than a table may have are refused, however many more
 
@@ -146,5 +146,5 @@ set-up-all room h list i bytes g over ws after r p =
     let last : i ≡ length list = omega (arith, g .within) in
     let same : bodies bytes ≡ room / bodySize = ap (λ (n : ℕ). n / bodySize) (g .long) in
     let whole : setUp (firstBodies bytes (length list)) ws ≡ setUp (bodiesOf list) ws
-    = ap (λ (xs : List ℕ). setUp xs ws) (rw last at (g .held)) ∙ cut-list list ws (bodies bytes) (rw same h) in
+    = ap (λ (xs : List ℕ). setUp xs ws) (rw last at (g .laid)) ∙ cut-list list ws (bodies bytes) (rw same h) in
     record { table = p .table ∙ ap (λ (s : Result). s .table) whole; status = p .status ∙ ap (λ (s : Result). s .answer .status) whole }

@@ -12,7 +12,7 @@ use Rattle.rules.specs.declared.Media.the-variants.{Reads, Writes, Excursion}
 use Rattle.rules.specs.Rules.{mediaRule}
 use Rattle.steps.specs.Items.{itemOf}
 use Rattle.steps.specs.Card.{effectOn, ruled}
-use Rattle.steps.proofs.Named.{meaning-media}
+use Rattle.steps.proofs.NamedItems.{meaning-media}
 use Rattle.by_reference.specs.Records.{ChargedInPlace, StaysLegal}
 
 -- the step's rule for an event is the media layer's

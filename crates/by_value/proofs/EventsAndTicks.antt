@@ -30,10 +30,10 @@ use Rattle.steps.specs.Card.{refusalAll, refusalOf, concerns, touched, effectOn
 use Rattle.steps.specs.Words.{cardOf, stepWords, Answered}
 use Rattle.octets.specs.Lists.{join}
 use Rattle.octets.proofs.Lists.{map-same}
-use Rattle.steps.proofs.Shapes.{touched-own}
+use Rattle.steps.proofs.ItemShapes.{touched-own}
 use Rattle.replies.proofs.Answering.{refused-reply}
-use Rattle.steps.proofs.Named.{meaning-media}
-use Rattle.steps.proofs.Frame.{step-bad, step-legal, step-refused, step-unknown, step-done, here}
+use Rattle.steps.proofs.NamedItems.{meaning-media}
+use Rattle.steps.proofs.StepOnWords.{step-bad, step-legal, step-refused, step-unknown, step-done, here}
 
 -- ---- what an item answers that has no data: a refusal, or a success
 

@@ -28,7 +28,7 @@ use Rattle.steps.specs.Commanded.{named}
 use Rattle.steps.specs.Meanings.{meaning}
 use Rattle.steps.specs.Words.{Answered}
 use Rattle.by_value.specs.OnSet.{statusOn, OnSet}
-use Rattle.steps.proofs.Frame.{step-bad, step-unknown, step-late, step-done}
+use Rattle.steps.proofs.StepOnWords.{step-bad, step-unknown, step-late, step-done}
 use Rattle.replies.proofs.Answering.{refused-reply}
 
 -- a table that is not legal

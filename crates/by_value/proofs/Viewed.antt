@@ -29,8 +29,8 @@ use Rattle.steps.specs.Meanings.{meaning}
 use Rattle.steps.specs.Card.{concerns, after, answer}
 use Rattle.steps.specs.Words.{cardOf, Answered}
 use Rattle.octets.proofs.Lists.{map-fixed}
-use Rattle.steps.proofs.Shapes.{touched-not}
-use Rattle.steps.proofs.Frame.{step-legal}
+use Rattle.steps.proofs.ItemShapes.{touched-not}
+use Rattle.steps.proofs.StepOnWords.{step-legal}
 
 module _ (ws : List ℕ) (i : Item) (k : Kind) (c : Command) (given : ℕ) (before : List ℕ)
     (m : meaning i ≡ Nobody (viewed k c given (length before))) (e : legalTable ws ≡ true) where

@@ -25,7 +25,7 @@ use table::MAX_SETS;
 use table::layout::HEADER;
 use table::layout::ROW;
 
-fn off() -> State
+fn new_state() -> State
     ensures { λ r. ⌜ r ≡ newState ⌝ }
 {
     let enabled = no_events();
@@ -51,7 +51,7 @@ fn off() -> State
 pub fn new_record(a: Attributes) -> Record
     ensures { λ r. ⌜ r ≡ newRecord a ⌝ }
 {
-    let state = off();
+    let state = new_state();
     let events = no_events();
     let notes = Notes {
         events: events,

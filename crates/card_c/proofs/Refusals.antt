@@ -11,7 +11,7 @@ use Rattle.steps.specs.Rows.{carriedOut}
 use Rattle.steps.specs.Words.{Result, stepWords}
 use Rattle.steps.specs.SetUp.{setUp}
 use Rattle.steps.proofs.OnWords.{refused-words}
-use Rattle.steps.proofs.Exact.{answers-words, set-up-refused, set-up-answers}
+use Rattle.steps.proofs.ExactRefusals.{answers-words, set-up-refused, set-up-answers}
 use Rattle.region.specs.Region.{tableIn, tableOut}
 use Rattle.region.proofs.Words.{own-region}
 use Rattle.card_c.specs.Entries.{SetUpAtC, AnsweredAtC}

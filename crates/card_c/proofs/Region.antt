@@ -32,7 +32,7 @@ use Rattle.commands.specs.declared.Kind.{Kind}
 use Rattle.steps.specs.Items.{Item}
 use Rattle.steps.specs.Words.{Answered}
 use Rattle.by_value.specs.OnSet.{tableOn, OnSet}
-use Rattle.steps.proofs.Frame.{here}
+use Rattle.steps.proofs.StepOnWords.{here}
 use Rattle.card_c.specs.Entries.{replyPart, AnsweredAtC}
 use Rattle.card_c.specs.InPlace.{ruledBy, AnswerAtC, OnSetAtC}
 

@@ -49,7 +49,7 @@ setListCns = 0x04
 
 -- ---- the table
 
--- a row: opcode; FID, CNS or page; bytes of data in; size of the page that it answers, and whether a part of that is asked, as of a log;
+-- a row's columns: opcode; FID, CNS or page; bytes of data in; size of the page that it answers, and whether a part of that is asked;
 -- whom it names; and whether these rows of the status table look at it: Save, Select, "14h while off", "window not 1 or 2 (Set)" with
 -- "select D from N too early"
 abbrev pub shape : ℕ → ℕ → ℕ → ℕ → Bool → Whom → Bool → Bool → Bool → Bool → Shape
@@ -67,15 +67,29 @@ shape opcode choice takes page part whom save select on window =
       window = window;
     }
 
+-- "Features: FID in CDW10 7:0; Save in CDW10 bit 31 (Set)": so many bytes of data in, or a window
+abbrev pub setFeature : ℕ → ℕ → Bool → Shape
+setFeature fid takes window = shape setOpcode fid takes 0 false FeatureSet true false window window
+
+-- "Select in CDW10 10:8 (Get)": a page of that size, or the window, which is none while off
+abbrev pub getFeature : ℕ → ℕ → Bool → Shape
+getFeature fid page window = shape getOpcode fid 0 page false FeatureSet false true window false
+
+-- a part of a page of that size
+abbrev pub readLog : ℕ → ℕ → Whom → Shape
+readLog page size whom = shape logOpcode page 0 size true whom false false false false
+
+abbrev pub identified : ℕ → ℕ → Shape
+identified cns size = shape identifyOpcode cns 0 size false NoSet false false false false
+
 abbrev pub shapeOf : Kind → Shape
---                       opcode         FID, CNS, page  takes       page          part  whom       Save  Select on    window
-shapeOf SetConfig = shape setOpcode configFid featureSize 0 false FeatureSet true false false false
-shapeOf SetWindow = shape setOpcode windowFid 0 0 false FeatureSet true false true true
-shapeOf GetConfig = shape getOpcode configFid 0 featureSize false FeatureSet false true false false
-shapeOf GetWindow = shape getOpcode windowFid 0 0 false FeatureSet false true true false
-shapeOf ReadLatency = shape logOpcode latencyPageNo 0 latencySize true LogSet false false false false
-shapeOf ReadAggregate = shape logOpcode aggregatePageNo 0 aggregateSize true NoSet false false false false
-shapeOf Identify = shape identifyOpcode setListCns 0 identifySize false NoSet false false false false
+shapeOf SetConfig = setFeature configFid featureSize false
+shapeOf SetWindow = setFeature windowFid 0 true
+shapeOf GetConfig = getFeature configFid featureSize false
+shapeOf GetWindow = getFeature windowFid 0 true
+shapeOf ReadLatency = readLog latencyPageNo latencySize LogSet
+shapeOf ReadAggregate = readLog aggregatePageNo aggregateSize NoSet
+shapeOf Identify = identified setListCns identifySize
 
 -- all that are listed
 abbrev pub kinds : List Kind

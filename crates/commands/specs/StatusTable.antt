@@ -15,7 +15,7 @@ use Rattle.replies.specs.Status.{Line, line}
 use Rattle.rules.specs.declared.Cause.{Cause}
 use Rattle.rules.specs.declared.Cause.the-variants.{SelectN}
 use Rattle.rules.specs.Changes.{refusedBy}
-use Rattle.rules.specs.Rules.{tooEarly}
+use Rattle.rules.specs.Rules.{isEarly}
 use Rattle.commands.specs.declared.Command.{Command}
 use Rattle.commands.specs.declared.Kind.{Kind}
 use Rattle.commands.specs.Commands.{dwordSize, opcode, chosen, save, select, windowValue, windowCause, dwords, offset}
@@ -98,7 +98,7 @@ shortLine k c given room = line (ltb given (needsIn k) || ltb room (needsOut k c
 
 -- "select D from N too early"
 abbrev pub selectsEarly : Kind → Command → Attributes → State → Bool
-selectsEarly k c a s = shapeOf k .window && tooEarly (windowCause c) a s
+selectsEarly k c a s = shapeOf k .window && isEarly (windowCause c) a s
 
 abbrev pub lateLines : Kind → Command → ℕ → ℕ → Attributes → State → List Line
 lateLines k c given room a s =

@@ -1,7 +1,6 @@
 // 01's commands as one table, and what is read from it.
 ghost use mathlib.Core.Path.{_≡_};
-ghost use mathlib.Core.Bool.{true};
-ghost use Rattle.commands.specs.Shapes.{shape, shapeOf, kindOf, isNamed, namedBy, needsIn, needsOut};
+ghost use Rattle.commands.specs.Shapes.{setFeature, getFeature, readLog, identified, shapeOf, kindOf, isNamed, namedBy, needsIn, needsOut};
 use crate::Command;
 use crate::DWORD;
 use crate::Kind;
@@ -37,95 +36,88 @@ const AGGREGATE: u32 = 0x0B;
 
 const SET_LIST: u32 = 0x04;
 
-// Marks of the table's columns.
-const X: bool = true;
-
-const O: bool = false;
-
-fn shape(
-    opcode: u32,
-    choice: u32,
-    takes: usize,
-    page: usize,
-    part: bool,
-    whom: Whom,
-    save: bool,
-    select: bool,
-    on: bool,
-    window: bool,
-) -> Shape
-    ensures { λ r. ⌜ r ≡ shape opcode choice takes page part whom save select on window ⌝ }
+// Set Features: Save is looked at; so many bytes of data in, or a window.
+fn set_feature(fid: u32, takes: usize, window: bool) -> Shape
+    ensures { λ r. ⌜ r ≡ setFeature fid takes window ⌝ }
 {
     Shape {
-        opcode,
-        choice,
+        opcode: SET,
+        choice: fid,
         takes,
-        page,
-        part,
-        whom,
-        save,
-        select,
-        on,
+        page: 0,
+        part: false,
+        whom: Whom::FeatureSet,
+        save: true,
+        select: false,
+        on: window,
         window,
     }
 }
 
-// The columns: opcode; FID, CNS or page; data in; page; part; whom; then the rows Save, Select, 14h while off, window and too early.
+// Get Features: Select is looked at; a page of that size, or the window, which is none while off.
+fn get_feature(fid: u32, page: usize, window: bool) -> Shape
+    ensures { λ r. ⌜ r ≡ getFeature fid page window ⌝ }
+{
+    Shape {
+        opcode: GET,
+        choice: fid,
+        takes: 0,
+        page,
+        part: false,
+        whom: Whom::FeatureSet,
+        save: false,
+        select: true,
+        on: window,
+        window: false,
+    }
+}
+
+// Get Log Page: a part of a page of that size.
+fn read_log(page: u32, size: usize, whom: Whom) -> Shape
+    ensures { λ r. ⌜ r ≡ readLog page size whom ⌝ }
+{
+    Shape {
+        opcode: LOG,
+        choice: page,
+        takes: 0,
+        page: size,
+        part: true,
+        whom,
+        save: false,
+        select: false,
+        on: false,
+        window: false,
+    }
+}
+
+fn identified(cns: u32, size: usize) -> Shape
+    ensures { λ r. ⌜ r ≡ identified cns size ⌝ }
+{
+    Shape {
+        opcode: IDENTIFY,
+        choice: cns,
+        takes: 0,
+        page: size,
+        part: false,
+        whom: Whom::NoSet,
+        save: false,
+        select: false,
+        on: false,
+        window: false,
+    }
+}
+
 pub fn shape_of(k: Kind) -> Shape
     ensures { λ r. ⌜ r ≡ shapeOf k ⌝ }
 {
     match k {
-        Kind::SetConfig => shape(
-            SET,
-            CONFIG,
-            FEATURE_SIZE,
-            0,
-            O,
-            Whom::FeatureSet,
-            X,
-            O,
-            O,
-            O,
-        ),
-        Kind::SetWindow => shape(SET, WINDOW, 0, 0, O, Whom::FeatureSet, X, O, X, X),
-        Kind::GetConfig => shape(
-            GET,
-            CONFIG,
-            0,
-            FEATURE_SIZE,
-            O,
-            Whom::FeatureSet,
-            O,
-            X,
-            O,
-            O,
-        ),
-        Kind::GetWindow => shape(GET, WINDOW, 0, 0, O, Whom::FeatureSet, O, X, X, O),
-        Kind::ReadLatency => shape(LOG, LATENCY, 0, LATENCY_SIZE, X, Whom::LogSet, O, O, O, O),
-        Kind::ReadAggregate => shape(
-            LOG,
-            AGGREGATE,
-            0,
-            AGGREGATE_SIZE,
-            X,
-            Whom::NoSet,
-            O,
-            O,
-            O,
-            O,
-        ),
-        Kind::Identify => shape(
-            IDENTIFY,
-            SET_LIST,
-            0,
-            IDENTIFY_SIZE,
-            O,
-            Whom::NoSet,
-            O,
-            O,
-            O,
-            O,
-        ),
+        Kind::SetConfig => set_feature(CONFIG, FEATURE_SIZE, false),
+        Kind::SetWindow => set_feature(WINDOW, 0, true),
+        Kind::GetConfig => get_feature(CONFIG, FEATURE_SIZE, false),
+        Kind::GetWindow => get_feature(WINDOW, 0, true),
+        Kind::ReadLatency => read_log(LATENCY, LATENCY_SIZE, Whom::LogSet),
+        Kind::ReadAggregate => read_log(AGGREGATE, AGGREGATE_SIZE, Whom::NoSet),
+        Kind::Identify => identified(SET_LIST, IDENTIFY_SIZE),
     }
 }
 

@@ -40,7 +40,7 @@ use replies::numbers::TOO_EARLY;
 use replies::numbers::TOO_SHORT;
 use rules::Cause;
 use rules::changes::refuses;
-use rules::too_early;
+use rules::is_early;
 
 const DWORDS_MAXIMUM: u64 = 1024;
 
@@ -142,7 +142,7 @@ fn selects_early(k: Kind, c: Command, a: Attributes, s: State) -> bool
 {
     let shape = shape_of(k);
     if shape.window {
-        return too_early(a, s, window_cause(c));
+        return is_early(a, s, window_cause(c));
     }
     false
 }

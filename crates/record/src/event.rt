@@ -18,6 +18,17 @@ use crate::quantities::need_of;
 use crate::quantities::spent_of;
 use crate::quantities::threshold_of;
 
+// The bits of ENEV and of the event type.
+const READS: u64 = 0x0001;
+
+const WRITES: u64 = 0x0002;
+
+const TIME: u64 = 0x0004;
+
+const EXCEEDED: u64 = 0x4000;
+
+const EXCURSION: u64 = 0x8000;
+
 pub fn estimate_of(a: Attributes, s: State, q: Quantity) -> u64
     ensures { λ r. ⌜ r ≡ estimate q a s ⌝ }
 {
@@ -42,19 +53,19 @@ pub fn bit_of(b: bool) -> u64
 pub fn bits_of(e: Events) -> u64
     ensures { λ r. ⌜ (r ≡ bitsOf e) × (r < 65536) ⌝ }
 {
-    let low = bit_of(e.reads) + 2 * bit_of(e.writes) + 4 * bit_of(e.time);
-    low + 0x4000 * bit_of(e.exceeded) + 0x8000 * bit_of(e.excursion)
+    let low = bit_of(e.reads) + WRITES * bit_of(e.writes) + TIME * bit_of(e.time);
+    low + EXCEEDED * bit_of(e.exceeded) + EXCURSION * bit_of(e.excursion)
 }
 
 pub fn events_in(x: u64) -> Events
     ensures { λ r. ⌜ r ≡ eventsIn x ⌝ }
 {
     Events {
-        reads: x / 0x0001 % 2 == 1,
-        writes: x / 0x0002 % 2 == 1,
-        time: x / 0x0004 % 2 == 1,
-        exceeded: x / 0x4000 % 2 == 1,
-        excursion: x / 0x8000 % 2 == 1,
+        reads: x / READS % 2 == 1,
+        writes: x / WRITES % 2 == 1,
+        time: x / TIME % 2 == 1,
+        exceeded: x / EXCEEDED % 2 == 1,
+        excursion: x / EXCURSION % 2 == 1,
     }
 }
 

@@ -71,16 +71,8 @@ pub fn hand_out(
     ensures { λ r. ⌜ Replied (answered status dword (padded (now (page .entry)) from n)) (now (answer .entry)) r (now (answer .exit)) ⌝ }
 {
     if status != SUCCESS {
-        return Reply {
-            status,
-            dword: 0,
-            len: 0,
-        };
+        return refuse(status);
     }
     octets::copy_part(page, from, n, answer);
-    Reply {
-        status: SUCCESS,
-        dword,
-        len: n,
-    }
+    give(dword, n)
 }

@@ -22,7 +22,7 @@ causeNo Excursion = 4
 causeNo Exceeded = 5
 causeNo TimeUp = 6
 
--- the table; its "if time is spent" is `tooEarly` of Rules
+-- the table; its "if time is spent" is `isEarly` of Rules
 abbrev pub changes : List (List Next)
 changes =
     (ToN ∷ ToOff ∷ Refuse ∷ Refuse ∷ ToOff ∷ Never ∷ Never ∷ [])

@@ -49,8 +49,8 @@ configure on c s = still (configured c (afresh s (movedBy (s .window) (causeOfMo
 -- ---- select D and select N
 
 -- "D, if time is spent": "Select D needs N time equal to minimum high."
-abbrev pub tooEarly : Cause → Attributes → State → Bool
-tooEarly c a s =
+abbrev pub isEarly : Cause → Attributes → State → Bool
+isEarly c a s =
     sameWindow (s .window) N && sameWindow (movedBy (s .window) c) D && not (eqb (s .«n_time») (need a))
 
 -- "Entering D zeroes reads, writes and time", and reckons all three warnings; entering N notes nothing

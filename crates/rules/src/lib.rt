@@ -5,7 +5,7 @@ ghost use mathlib.Core.Path.{_≡_};
 ghost use Prim.Native.Nat.{_+_};
 ghost use Rattle.record.specs.declared.Window.{Window};
 ghost use Rattle.record.specs.Record.{afresh, effectOf};
-ghost use Rattle.rules.specs.Rules.{still, onlyInD, causeOfMode, configure, tooEarly, entered, selecting, isOver, causeOver, carried, leaving, charge, readEvent, writeEvent, excursionEvent, mediaRule, recovery, tick, clearingRead};
+ghost use Rattle.rules.specs.Rules.{still, onlyInD, causeOfMode, configure, isEarly, entered, selecting, isOver, causeOver, carried, leaving, charge, readEvent, writeEvent, excursionEvent, mediaRule, recovery, tick, clearingRead};
 use crate::changes::moved;
 use record::Attributes;
 use record::Config;
@@ -105,8 +105,8 @@ pub fn set_mode(s: State, on: bool, c: Config) -> Effect
 }
 
 // Where the need is met the table is not asked.
-pub fn too_early(a: Attributes, s: State, c: Cause) -> bool
-    ensures { λ r. ⌜ r ≡ tooEarly c a s ⌝ }
+pub fn is_early(a: Attributes, s: State, c: Cause) -> bool
+    ensures { λ r. ⌜ r ≡ isEarly c a s ⌝ }
 {
     let need = need_of(a);
     if s.n_time == need {
@@ -119,7 +119,7 @@ pub fn too_early(a: Attributes, s: State, c: Cause) -> bool
 }
 
 // Into another window, with the events of entering it.
-fn enter(a: Attributes, s: State, w: Window) -> Effect
+fn go_into(a: Attributes, s: State, w: Window) -> Effect
     ensures { λ r. ⌜ r ≡ entered w a s ⌝ }
 {
     let c = s.config;
@@ -139,7 +139,7 @@ pub fn go_to_selected(a: Attributes, s: State, c: Cause) -> Effect
     if same_window(next, w) {
         keep_still(s)
     } else {
-        enter(a, s, next)
+        go_into(a, s, next)
     }
 }
 

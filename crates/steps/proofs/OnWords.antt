@@ -20,11 +20,11 @@ use Rattle.steps.specs.Items.{Card, Item}
 use Rattle.steps.specs.Card.{refusalOf, after, answer, run, trace}
 use Rattle.steps.specs.Words.{cardOf, stepWords}
 use Rattle.steps.specs.Demands.{Refused, RefusedWords, runWords, traceWords, WordsRun, WordsTrace, WordsSwap}
-use Rattle.steps.proofs.Shapes.{bool-cases}
+use Rattle.steps.proofs.ItemShapes.{bool-cases}
 use Rattle.steps.proofs.Slots.{refused-answer, refused-sets}
-use Rattle.steps.proofs.Frame.{step-bad, step-legal, step-refused}
-use Rattle.steps.proofs.Kept.{step-keeps, step-back}
-use Rattle.steps.proofs.History.{length-run, swap-within}
+use Rattle.steps.proofs.StepOnWords.{step-bad, step-legal, step-refused}
+use Rattle.steps.proofs.KeptLegal.{step-keeps, step-back}
+use Rattle.steps.proofs.OwnHistory.{length-run, swap-within}
 
 pub refused : Refused
 refused c i h n = let s = ne-eqb (refusalOf c i) 0 n in (refused-answer c i s, refused-sets c i h s)

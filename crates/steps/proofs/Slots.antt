@@ -22,7 +22,7 @@ use Rattle.steps.specs.Items.{Card, Item, Meaning, Nobody, Everybody, Th
 use Rattle.steps.specs.Meanings.{meaning}
 use Rattle.steps.specs.Card.{effectBy, effectOn, ruled, concernsBy, refusalBy, refusalOf, concerns, touched, after, has, answer, names}
 use Rattle.octets.proofs.Lists.{map-fixed}
-use Rattle.steps.proofs.Shapes.{bool-cases, named, touched-own, touched-not}
+use Rattle.steps.proofs.ItemShapes.{bool-cases, named, touched-own, touched-not}
 
 -- ---- identifiers that rise
 

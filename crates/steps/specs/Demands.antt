@@ -1,8 +1,10 @@
 -- What is promised of the step: demand 1 as laws for all items; demand 3 over any list of items; and of demand 2, that features
 -- hand back what they store.
--- Each is proved under its name, in lower case and with dashes, in proofs/Exact.antt, proofs/Stored.antt, proofs/Named.antt,
--- proofs/History.antt, proofs/Aggregate.antt and proofs/OnWords.antt.
--- But for page 0Bh, the features and which items name a set nothing here looks at a single item: an item names one set (`The`), goes to every set (`Everybody`) or to none (`Nobody`).
+-- Each is proved under its name, in lower case and with dashes: demand 1 in proofs/ExactRefusals.antt, what features store in
+-- proofs/StoredFeatures.antt, demand 3 in proofs/NamedItems.antt, proofs/OwnHistory.antt and proofs/AggregateLog.antt, and what holds of
+-- the lent words in proofs/OnWords.antt.
+-- But for page 0Bh, the features and which items name a set nothing here looks at a single item: an item names one set (`The`), goes
+-- to every set (`Everybody`) or to none (`Nobody`).
 use mathlib.Core.Path.{_≡_}
 use mathlib.Core.Bool.{Bool, true, false, not, _&&_, _||_}
 use mathlib.Core.List.{List, [], _∷_, _++_, map}
@@ -26,7 +28,7 @@ use Rattle.pages.specs.Aggregate.{picked, aggregatePage}
 use Rattle.octets.specs.Lists.{nth, keep, beside, join}
 use Rattle.steps.specs.Items.{Card, Item, reads, writes, excursion, tick, command, itemOf, All, View, Meaning, Nobody, Everybody, The}
 use Rattle.commands.specs.declared.Kind.{Kind}
-use Rattle.commands.specs.declared.Kind.the-variants.{SetConfig, SetWindow, GetConfig, GetWindow, ReadLatency, ReadAggregate, Identify}
+use Rattle.commands.specs.declared.Kind.the-variants.{SetConfig, SetWindow, GetConfig, GetWindow, ReadAggregate, Identify}
 use Rattle.commands.specs.Commands.{dwordSize, commandIn, featureSet, enable, windowValue, offset, dwords}
 use Rattle.commands.specs.Shapes.{setOpcode, configFid, hasOpcode, hasChoice, kindOf, isNamed, namedBy}
 use Rattle.steps.specs.Meanings.{meaning}
@@ -289,15 +291,15 @@ ConfigStored =
 -- ---- 14h
 
 -- an item that names a set, or goes to every set
-abbrev pub reaches : ℕ → Item → Bool
-reaches id i = names id i || toAll i
+abbrev pub reachesSet : ℕ → Item → Bool
+reachesSet id i = names id i || toAll i
 
 -- "or the window, in dword 0": that of the last Set Features 14h, as long as no event, no tick and no command reaches the set
 abbrev pub WindowStored : Type 0
 WindowStored =
     (c : Card) (bytes given : List ℕ) (room : ℕ) (items : List Item) (bytes′ given′ : List ℕ) (room′ : ℕ)
     → kindOf (commandIn bytes) ≡ SetWindow → answer c (command bytes given room) .status ≡ success
-    → noneOf (reaches (featureSet (commandIn bytes))) items ≡ true
+    → noneOf (reachesSet (featureSet (commandIn bytes))) items ≡ true
     → kindOf (commandIn bytes′) ≡ GetWindow → featureSet (commandIn bytes′) ≡ featureSet (commandIn bytes)
     → answer (run c (command bytes given room ∷ items)) (command bytes′ given′ room′) .status ≡ success
     → answer (run c (command bytes given room ∷ items)) (command bytes′ given′ room′)

@@ -2,7 +2,7 @@
 -- are handed in with it.
 use mathlib.Core.Path.{_≡_}
 use mathlib.Core.Bool.{Bool, true, false, not, _&&_, _||_}
-use mathlib.Core.List.{List, [], _∷_, map}
+use mathlib.Core.List.{List, [], _∷_}
 use mathlib.Core.Option.{Option, none, some}
 use Prim.Native.Nat.{ℕ}
 use lib.Dec.{ltb, eqb}
@@ -16,7 +16,7 @@ use Rattle.replies.specs.Status.{Line, line, firstOf}
 use Rattle.table.specs.Table.{recordsOf, legalTable}
 use Rattle.commands.specs.Commands.{commandIn}
 use Rattle.commands.specs.Shapes.{kindOf, isNamed, namedBy}
-use Rattle.commands.specs.StatusTable.{lengthRow, opcodeRow, choiceRow, pageRow, saveRow, partRow, windowWrong, shortLine, selectsEarly}
+use Rattle.commands.specs.StatusTable.{lengthRow, opcodeRow, choiceRow, pageRow, saveRow, partRow, unknownNumber, windowWrong, shortLine, selectsEarly}
 use Rattle.octets.specs.Lists.{first}
 use Rattle.steps.specs.Card.{has}
 
@@ -55,7 +55,7 @@ commandRows ws bytes given room =
     ∷ pageRow c
     ∷ saveRow c
     ∷ partRow c
-    ∷ line (isNamed k && not (isThere set)) invalidField
+    ∷ line (isNamed k && not (isThere set)) unknownNumber
     ∷ line (ofSet (λ a s. windowWrong k c s) set) invalidField
     ∷ shortLine k c (length given) room
     ∷ line (ofSet (selectsEarly k c) set) tooEarly

@@ -26,8 +26,8 @@ abbrev pub notesWord : ℕ
 notesWord = 22
 
 -- a record as its words
-abbrev pub fieldsOf : Record → List ℕ
-fieldsOf r =
+abbrev pub fieldWords : Record → List ℕ
+fieldWords r =
     r .attributes .id .0
     ∷ r .attributes .group .0
     ∷ r .attributes .«random_read_typical»
@@ -55,7 +55,7 @@ fieldsOf r =
     ∷ []
 
 unfoldable pub wordsOf : Record → List ℕ
-wordsOf r = fieldsOf r
+wordsOf r = fieldWords r
 
 -- the window of a number; any number above 1 gives N, so that for one above 2 the words differ and `legalRow` refuses it
 abbrev pub windowIn : ℕ → Window

@@ -1,7 +1,7 @@
 // One set as a row of words, and back.
 ghost use mathlib.Core.Path.{_≡_};
 ghost use Rattle.record.specs.Record.{idOf};
-ghost use Rattle.table.specs.Layout.{fieldsOf, wordsOf, windowIn, attributesAt, stateAt, notesAt, recordOf};
+ghost use Rattle.table.specs.Layout.{fieldWords, wordsOf, windowIn, attributesAt, stateAt, notesAt, recordOf};
 use octets::casts::from_size;
 use record::Attributes;
 use record::Capacity;
@@ -33,8 +33,8 @@ pub const NOTES: usize = 22;
 
 pub const LISTED: usize = 23;
 
-fn fields_of(r: Record) -> [u64; ROW]
-    ensures { λ a. ⌜ a ≡ fieldsOf r ⌝ }
+fn field_words(r: Record) -> [u64; ROW]
+    ensures { λ a. ⌜ a ≡ fieldWords r ⌝ }
 {
     let s = r.state;
     let w = s.window;
@@ -158,7 +158,7 @@ pub fn record_of(a: [u64; ROW]) -> Record
 pub fn words_of(r: Record) -> [u64; ROW]
     ensures { λ a. ⌜ a ≡ wordsOf r ⌝ }
 {
-    fields_of(r)
+    field_words(r)
 }
 
 pub fn id_in(a: [u64; ROW]) -> u64

@@ -18,25 +18,25 @@ use Rattle.commands.specs.Commands.{commandSize}
 use Rattle.steps.specs.Items.{Item, reads, writes, excursion, tick, command}
 use Rattle.steps.specs.Words.{stepWords, Answered, Handed}
 use Rattle.tape.specs.Text.{itemLine, Put}
-use Rattle.tape.specs.Tape.{bodySizes, bodySize, attributesKind, attributesSize, answerSize, mediaItem, itemBy, isItem, itemIn, Played, nextBody, nextSet, nextItem}
+use Rattle.tape.specs.Tape.{itemSizes, itemSize, attributesKind, attributesSize, answerSize, mediaItem, itemBy, isItem, itemIn, Played, nextBody, nextSet, nextItem}
 use Rattle.tape.specs.declared.Next.{Next}
 use Rattle.tape.specs.declared.Next.the-variants.{Over, Bad}
 
 -- ---- bodies
 
-pub size-none : (kind : ℕ) → 7 ≤ kind → bodySize kind ≡ 0
-size-none kind h = List·getD-eq-default bodySizes 0 h
+pub size-none : (kind : ℕ) → 7 ≤ kind → itemSize kind ≡ 0
+size-none kind h = List·getD-eq-default itemSizes 0 h
 
-pub size-command : (kind : ℕ) → kind < 3 → 0 < bodySize kind → commandSize ≤ bodySize kind
+pub size-command : (kind : ℕ) → kind < 3 → 0 < itemSize kind → commandSize ≤ itemSize kind
 size-command zero h s = absurd (omega arith)
 size-command (suc zero) h s = lit≤ tt
 size-command (suc (suc zero)) h s = lit≤ tt
 size-command (suc (suc (suc k))) h s = absurd (omega arith)
 
-pub size-tick : (kind : ℕ) → kind ≡ 6 → bodySize kind ≡ 4
+pub size-tick : (kind : ℕ) → kind ≡ 6 → itemSize kind ≡ 4
 size-tick kind e = rw e
 
-pub size-media : (kind : ℕ) → 3 ≤ kind → 0 < bodySize kind → (2 ≤ bodySize kind) × (kind < 5 → 4 ≤ bodySize kind)
+pub size-media : (kind : ℕ) → 3 ≤ kind → 0 < itemSize kind → (2 ≤ itemSize kind) × (kind < 5 → 4 ≤ itemSize kind)
 size-media zero h s = absurd (omega arith)
 size-media (suc zero) h s = absurd (omega arith)
 size-media (suc (suc zero)) h s = absurd (omega arith)
@@ -46,10 +46,10 @@ size-media (suc (suc (suc (suc (suc zero))))) h s = (lit≤ tt, λ l. absurd (om
 size-media (suc (suc (suc (suc (suc (suc zero)))))) h s = (lit≤ tt, λ l. absurd (omega arith))
 size-media (suc (suc (suc (suc (suc (suc (suc k))))))) h s = absurd (omega (arith, size-none (suc (suc (suc (suc (suc (suc (suc k))))))) (omega arith)))
 
-pub known-item : (kind : ℕ) (body : List ℕ) → isItem kind body ≡ true → (0 < bodySize kind) × (length body ≡ bodySize kind)
+pub known-item : (kind : ℕ) (body : List ℕ) → isItem kind body ≡ true → (0 < itemSize kind) × (length body ≡ itemSize kind)
 known-item kind body h =
-    let p = both (ltb 0 (bodySize kind)) _ h in
-    (ltb-true 0 (bodySize kind) (p .0), eqb-true (length body) (bodySize kind) (p .1))
+    let p = both (ltb 0 (itemSize kind)) _ h in
+    (ltb-true 0 (itemSize kind) (p .0), eqb-true (length body) (itemSize kind) (p .1))
 
 -- ---- lines
 
@@ -147,13 +147,13 @@ other-set [] last n e = absurd (n refl)
 other-set (k ∷ ks) last n e = rw (ne-eqb k attributesKind e)
 
 pub whole-item :
-    (left : List ℕ) (last : Bool) (size : ℕ) (r : Next) → (length left ≡ 0 → ⊥) → size ≡ bodySize (getD left 0 0) → 0 < size → r ≡ nextBody size (length left - 1) last → r ≡ nextItem left last
+    (left : List ℕ) (last : Bool) (size : ℕ) (r : Next) → (length left ≡ 0 → ⊥) → size ≡ itemSize (getD left 0 0) → 0 < size → r ≡ nextBody size (length left - 1) last → r ≡ nextItem left last
 whole-item [] last size r n e p h = absurd (n refl)
 whole-item (k ∷ ks) last size r n e p h =
     let d : suc (length ks) - 1 ≡ length ks = omega arith in
-    let t : 0 < bodySize k = rw (← e) p in
-    rw (lt-ltb 0 (bodySize k) t) (rw (d, e) at h)
+    let t : 0 < itemSize k = rw (← e) p in
+    rw (lt-ltb 0 (itemSize k) t) (rw (d, e) at h)
 
-pub bad-item : (left : List ℕ) (last : Bool) (size : ℕ) → (length left ≡ 0 → ⊥) → size ≡ bodySize (getD left 0 0) → size ≤ 0 → Bad ≡ nextItem left last
+pub bad-item : (left : List ℕ) (last : Bool) (size : ℕ) → (length left ≡ 0 → ⊥) → size ≡ itemSize (getD left 0 0) → size ≤ 0 → Bad ≡ nextItem left last
 bad-item [] last size n e p = absurd (n refl)
-bad-item (k ∷ ks) last size n e p = let t : bodySize k ≤ 0 = rw (← e) p in rw (le-ltb 0 (bodySize k) t)
+bad-item (k ∷ ks) last size n e p = let t : itemSize k ≤ 0 = rw (← e) p in rw (le-ltb 0 (itemSize k) t)

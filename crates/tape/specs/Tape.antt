@@ -10,7 +10,7 @@ use lib.Seq.{sets}
 use Rattle.octets.specs.Choice.{if_then_else_}
 use Rattle.octets.specs.Numbers.{numberAt}
 use Rattle.pages.specs.Features.{featureSize}
-use Rattle.pages.specs.Bodies.{bodySize as setBodySize}
+use Rattle.pages.specs.Bodies.{bodySize}
 use Rattle.commands.specs.Commands.{commandSize}
 use Rattle.steps.specs.Items.{Item, reads, writes, excursion, tick, command}
 use Rattle.steps.specs.Words.{stepWords}
@@ -30,18 +30,18 @@ tickKind = 6
 
 -- how long an item's body is, by its kind; 0 where the kind is none of an item's:
 -- "01h command, 64 bytes; 02h command with data, 576; 03h reads and 04h writes, set and count, 4; 05h excursion, 2; 06h tick, 4"
-abbrev pub bodySizes : List ℕ
-bodySizes = 0 ∷ commandSize ∷ (commandSize + featureSize) ∷ 4 ∷ 4 ∷ 2 ∷ 4 ∷ []
+abbrev pub itemSizes : List ℕ
+itemSizes = 0 ∷ commandSize ∷ (commandSize + featureSize) ∷ 4 ∷ 4 ∷ 2 ∷ 4 ∷ []
 
-abbrev pub bodySize : ℕ → ℕ
-bodySize kind = getD bodySizes kind 0
+abbrev pub itemSize : ℕ → ℕ
+itemSize kind = getD itemSizes kind 0
 
 -- "07h set attributes in the order above, 84"
 abbrev pub attributesKind : ℕ
 attributesKind = 7
 
 abbrev pub attributesSize : ℕ
-attributesSize = setBodySize
+attributesSize = bodySize
 
 -- "The answer buffer has 4,096 bytes."
 abbrev pub answerSize : ℕ
@@ -58,7 +58,7 @@ itemBy kind body =
     else mediaItem kind (numberAt body 0 2) (numberAt body 2 2)
 
 abbrev pub isItem : ℕ → List ℕ → Bool
-isItem kind body = ltb 0 (bodySize kind) && eqb (length body) (bodySize kind)
+isItem kind body = ltb 0 (itemSize kind) && eqb (length body) (itemSize kind)
 
 abbrev pub itemIn : ℕ → List ℕ → Option Item
 itemIn kind body = if isItem kind body then some (itemBy kind body) else none
@@ -92,4 +92,4 @@ nextSet (kind ∷ rest) last = if eqb kind attributesKind then nextBody attribut
 -- "Unknown kind, a late 07h or a cut body"
 abbrev pub nextItem : List ℕ → Bool → Next
 nextItem [] last = if last then Over else Short
-nextItem (kind ∷ rest) last = if ltb 0 (bodySize kind) then nextBody (bodySize kind) (length rest) last else Bad
+nextItem (kind ∷ rest) last = if ltb 0 (itemSize kind) then nextBody (itemSize kind) (length rest) last else Bad

@@ -8,7 +8,7 @@ ghost use lib.Dec.{ltb, eqb};
 ghost use lib.ListN.{length, drop};
 ghost use Rattle.octets.specs.Numbers.{numberAt};
 ghost use Rattle.steps.specs.Items.{Item, itemOf};
-ghost use Rattle.tape.specs.Tape.{bodySize, answerSize, mediaItem, itemBy, itemIn, Played, nextBody, nextSet, nextItem};
+ghost use Rattle.tape.specs.Tape.{itemSize, answerSize, mediaItem, itemBy, itemIn, Played, nextBody, nextSet, nextItem};
 use crate::Next;
 use crate::lines::LINE;
 use crate::lines::item_line;
@@ -32,8 +32,8 @@ const COMMAND_SIZE: usize = 64;
 const ANSWER_SIZE: usize = 4096;
 
 // How long an item's body is; 0 where the kind is none of an item's.
-pub fn body_size(kind: u8) -> usize
-    ensures { λ r. ⌜ r ≡ bodySize kind ⌝ }
+pub fn item_size(kind: u8) -> usize
+    ensures { λ r. ⌜ r ≡ itemSize kind ⌝ }
 {
     let sizes = SIZES;
     let i = kind as usize;
@@ -82,7 +82,7 @@ fn play_media(table: &mut [u64], line: &mut [u8; LINE], kind: u8, body: &[u8]) -
 }
 
 fn play_item(table: &mut [u64], line: &mut [u8; LINE], kind: u8, body: &[u8]) -> usize
-    requires { ⌜ (0 < bodySize kind) × (length (now body) ≡ bodySize kind) ⌝ }
+    requires { ⌜ (0 < itemSize kind) × (length (now body) ≡ itemSize kind) ⌝ }
     ensures { λ r. ⌜ Played (now (table .entry)) (some (itemBy kind (now (body .entry)))) (now (line .entry)) r (now (table .exit)) (now (line .exit)) ⌝ }
 {
     if kind < 3 {
@@ -95,9 +95,9 @@ fn play_item(table: &mut [u64], line: &mut [u8; LINE], kind: u8, body: &[u8]) ->
 }
 
 fn is_item(kind: u8, len: usize) -> bool
-    ensures { λ r. ⌜ r ≡ ltb 0 (bodySize kind) && eqb len (bodySize kind) ⌝ }
+    ensures { λ r. ⌜ r ≡ ltb 0 (itemSize kind) && eqb len (itemSize kind) ⌝ }
 {
-    let size = body_size(kind);
+    let size = item_size(kind);
     (0 < size) & (len == size)
 }
 
@@ -152,7 +152,7 @@ pub fn next_item(left: &[u8], last: bool) -> Next
     if left.len() == 0 {
         return next_none(last);
     }
-    let size = body_size(left[0]);
+    let size = item_size(left[0]);
     if 0 < size {
         next_body(size, left.len() - 1, last)
     } else {

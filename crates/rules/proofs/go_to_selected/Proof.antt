@@ -19,4 +19,4 @@ go-to-selected-spec =
     let t = c .before in
     let m = t .before .before .moved .ensures in
     let e = rw m at (sym (t .before .same-window .ensures) ∙ t .if1 .left) in
-    simp (c .enter .ensures, e, m)))
+    simp (c .go-into .ensures, e, m)))

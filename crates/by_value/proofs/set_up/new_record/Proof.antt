@@ -8,4 +8,4 @@ new-record-spec =
     (tie.spec
     (λ c κs. search needs)
     (λ c κs. search needs)
-    (λ c. simp (c .no-events .ensures, c .before .off .ensures)))
+    (λ c. simp (c .no-events .ensures, c .before .new-state .ensures)))

@@ -9,5 +9,5 @@ selects-early-spec =
     (λ c κs. search needs)
     (λ c κs. search needs)
     (λ c κs. search needs)
-    (λ c. simp (c .too-early .ensures, c .before .window-cause .ensures, rw (c .before .before .before .shape-of .ensures) at (c .before .before .if1 .taken)))
+    (λ c. simp (c .is-early .ensures, c .before .window-cause .ensures, rw (c .before .before .before .shape-of .ensures) at (c .before .before .if1 .taken)))
     (λ c. simp (rw (c .before .shape-of .ensures) at (c .if1 .left))))

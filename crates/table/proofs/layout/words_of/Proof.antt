@@ -5,7 +5,7 @@ use Rattle.table.proofs.layout.words_of.Tie as tie
 
 returns : tie.Need-returns
 unfolding wordsOf
-returns c = c .fields-of .ensures
+returns c = c .field-words .ensures
 
 pub words-of-spec : {M : Type 1} → statement M
 words-of-spec = tie.close (tie.spec (λ c κs. search needs) returns)

@@ -7,4 +7,4 @@ is-item-spec =
     tie.close
     (tie.spec
     (λ c κs. search needs)
-    (λ c. rw (c .body-size .ensures)))
+    (λ c. rw (c .item-size .ensures)))

@@ -16,7 +16,7 @@ next-item-spec =
     (λ c.
     let t = c .before in
     let i = t .before .before .before in
-    whole-item (i .before .before .args .left .now) _ _ _ (i .if1 .left) (t .before .body-size .ensures) (t .if2 .taken) (c .next-body .ensures))
+    whole-item (i .before .before .args .left .now) _ _ _ (i .if1 .left) (t .before .item-size .ensures) (t .if2 .taken) (c .next-body .ensures))
     (λ c.
     let i = c .before .before .before in
-    bad-item (i .before .before .args .left .now) _ _ (i .if1 .left) (c .before .body-size .ensures) (c .if2 .left)))
+    bad-item (i .before .before .args .left .now) _ _ (i .if1 .left) (c .before .item-size .ensures) (c .if2 .left)))

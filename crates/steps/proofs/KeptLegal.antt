@@ -29,9 +29,9 @@ use Rattle.steps.specs.Commanded.{meaningBy, commandMeaning}
 use Rattle.steps.specs.Meanings.{meaning}
 use Rattle.steps.specs.Card.{refusalAt, effectBy, effectOn, concerns, touched, after, step}
 use Rattle.steps.specs.Words.{cardOf, stepWords}
-use Rattle.steps.proofs.Shapes.{bool-cases, touched-own, touched-not, keeps}
+use Rattle.steps.proofs.ItemShapes.{bool-cases, touched-own, touched-not, keeps}
 use Rattle.steps.proofs.Slots.{ordered}
-use Rattle.steps.proofs.Frame.{step-legal}
+use Rattle.steps.proofs.StepOnWords.{step-legal}
 
 -- what is to be shown of each item: its rule keeps a state legal, where it is carried out
 abbrev Sound : Meaning → Type 0

@@ -21,8 +21,8 @@ use Rattle.steps.specs.Items.{Card, Item}
 use Rattle.steps.specs.Card.{after, answer}
 use Rattle.steps.specs.Words.{Result, cardOf, stepWords}
 use Rattle.steps.specs.SetUp.{bodies, newCard, setUpStatus, newTable, setUp}
-use Rattle.steps.proofs.Shapes.{bool-cases}
-use Rattle.steps.proofs.Frame.{step-bad, step-legal}
+use Rattle.steps.proofs.ItemShapes.{bool-cases}
+use Rattle.steps.proofs.StepOnWords.{step-bad, step-legal}
 use Rattle.steps.proofs.NewSets.{well, new-length, done, notDone}
 
 -- a result, and words past it

@@ -40,9 +40,9 @@ use Rattle.steps.specs.SetUp.{setUpLines, setUpStatus, setUp}
 use Rattle.steps.specs.Demands.{refusalWords, CarriedOut, Exactly, ExactlyEvents, ExactlyTicks, RefusedBuffer, RefusedHanded, SetUpExactly, SetUpRefused, SetUpLegal}
 use Rattle.steps.proofs.OnWords.{refused-words}
 use Rattle.steps.proofs.NewSets.{done, notDone, legal-set-up}
-use Rattle.steps.proofs.Shapes.{bool-cases}
-use Rattle.steps.proofs.Named.{meaning-media}
-use Rattle.steps.proofs.Frame.{step-bad, step-legal}
+use Rattle.steps.proofs.ItemShapes.{bool-cases}
+use Rattle.steps.proofs.NamedItems.{meaning-media}
+use Rattle.steps.proofs.StepOnWords.{step-bad, step-legal}
 
 -- what is to be shown of each item: what it answers where nothing refuses it is a success, and an unknown set is refused
 abbrev Succeeds : Meaning → Type 0

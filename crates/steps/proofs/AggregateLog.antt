@@ -14,7 +14,7 @@ use Rattle.commands.specs.Shapes.{kindOf}
 use Rattle.steps.specs.Commanded.{viewed, meaningBy, commandMeaning}
 use Rattle.steps.specs.Meanings.{meaning}
 use Rattle.steps.specs.Demands.{AggregateLog}
-use Rattle.steps.proofs.History.{aggregate}
+use Rattle.steps.proofs.OwnHistory.{aggregate}
 
 meaning-log :
     (bytes given : List ℕ) (room : ℕ) → kindOf (commandIn bytes) ≡ ReadAggregate

@@ -2,11 +2,11 @@ use mathlib.Core.Path.{sym}
 use native.Mathlib.Omega.{arith}
 use borrow.Author.Needs.{needs}
 use Rattle.tape.proofs.Playing.{size-none}
-use Rattle.tape.proofs.items.body_size.Statement.{statement}
-use Rattle.tape.proofs.items.body_size.Tie as tie
+use Rattle.tape.proofs.items.item_size.Statement.{statement}
+use Rattle.tape.proofs.items.item_size.Tie as tie
 
-pub body-size-spec : {M : Type 1} → statement M
-body-size-spec =
+pub item-size-spec : {M : Type 1} → statement M
+item-size-spec =
     tie.close
     (tie.spec
     (λ c. search needs)

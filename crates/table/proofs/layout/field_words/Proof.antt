@@ -1,9 +1,9 @@
 use borrow.Author.Needs.{needs}
-use Rattle.table.proofs.layout.fields_of.Statement.{statement}
-use Rattle.table.proofs.layout.fields_of.Tie as tie
+use Rattle.table.proofs.layout.field_words.Statement.{statement}
+use Rattle.table.proofs.layout.field_words.Tie as tie
 
-pub fields-of-spec : {M : Type 1} → statement M
-fields-of-spec =
+pub field-words-spec : {M : Type 1} → statement M
+field-words-spec =
     tie.close
     (tie.spec
     (λ c κs. search needs)

@@ -26,7 +26,7 @@ use Rattle.steps.specs.Items.{Item, One, The}
 use Rattle.steps.specs.Meanings.{meaning}
 use Rattle.steps.specs.Card.{refusalAt, unknownAt, refusalOne, refusalOf, effectOn, ruled, has, names, after, answer}
 use Rattle.steps.specs.Words.{cardOf, stepWords}
-use Rattle.steps.proofs.Shapes.{bool-cases}
+use Rattle.steps.proofs.ItemShapes.{bool-cases}
 use Rattle.steps.proofs.Slots.{found, refused-answer, refused-sets, at-slot}
 
 -- ---- where a search ends

@@ -40,11 +40,11 @@ use Rattle.commands.specs.StatusTable.{isOff, noWindow, lateLines}
 use Rattle.steps.specs.Commanded.{modeNo, named, meaningBy, commandMeaning}
 use Rattle.steps.specs.Meanings.{meaning}
 use Rattle.steps.specs.Card.{refusalAt, refusalOne, refusalOf, has, effectBy, effectOn, names, namesBy, concernsBy, concerns, touched, after, answer, run}
-use Rattle.steps.specs.Demands.{noneOf, stores13, configures, ConfigStored, reaches, toAllBy, toAll, WindowStored}
-use Rattle.steps.proofs.Exact.{answers}
+use Rattle.steps.specs.Demands.{noneOf, stores13, configures, ConfigStored, reachesSet, toAllBy, toAll, WindowStored}
+use Rattle.steps.proofs.ExactRefusals.{answers}
 use Rattle.octets.proofs.Lists.{first-map, first-passes, first-fixed}
-use Rattle.steps.proofs.Shapes.{bool-cases, touched-own, touched-not, keeps}
-use Rattle.steps.proofs.History.{has-same}
+use Rattle.steps.proofs.ItemShapes.{bool-cases, touched-own, touched-not, keeps}
+use Rattle.steps.proofs.OwnHistory.{has-same}
 
 -- ---- 13h: the mode and the configuration, which no other item changes
 
@@ -168,20 +168,20 @@ not-true false e = refl
 
 -- the set later on
 record Later (c : Card) (id : ℕ) (s : State) : Type 0 where
-  held : Record
-  there : first (has id) (c .sets) ≡ some held
-  kept : Kept s (held .state)
+  found : Record
+  there : first (has id) (c .sets) ≡ some found
+  kept : Kept s (found .state)
 
 later : (is : List Item) (c : Card) (id : ℕ) (r : Record) → first (has id) (c .sets) ≡ some r → idOf r ≡ id
     → noneOf (configures id) is ≡ true → Later (run c is) id (r .state)
-later [] c id r f e h = record { held = r; there = f; kept = same (r .state) }
+later [] c id r f e h = record { found = r; there = f; kept = same (r .state) }
 later (i ∷ is) c id r f e h =
     let n = length (c .sets) in
     let b = both (not (configures id i)) _ h in
     let f′ : first (has id) (after c i .sets) ≡ some (touched n i r) = first-map (touched n i) (has id) (has-same n id i) (c .sets) ∙ rw f in
     let k = touched-mild n i r (rw e (not-true (configures id i) (b .0))) in
     let l = later is (after c i) id (touched n i r) f′ (keeps n i r ∙ e) (b .1) in
-    record { held = l .held; there = l .there; kept = then-kept (r .state) (touched n i r .state) (l .held .state) k (l .kept) }
+    record { found = l .found; there = l .there; kept = then-kept (r .state) (touched n i r .state) (l .found .state) k (l .kept) }
 
 -- ---- a command that names a set and succeeds
 
@@ -191,14 +191,14 @@ module _ (bytes given : List ℕ) (room : ℕ) (k : Kind) (e : kindOf (commandIn
   command-is = rw e
 
 -- its set is in the table
-record Held (x : Option Record) (o : One) : Type 0 where
-  held : Record
-  there : x ≡ some held
-  passes : refusalAt o (held .attributes) (held .state) ≡ 0
+record Found (x : Option Record) (o : One) : Type 0 where
+  found : Record
+  there : x ≡ some found
+  passes : refusalAt o (found .attributes) (found .state) ≡ 0
 
-held-by : (k : Kind) (c : Command) (given : List ℕ) (room : ℕ) (x : Option Record) → refusalOne (named k c given room) x ≡ 0 → Held x (named k c given room)
-held-by k c given room none h = absurd (unknown-not-zero c h)
-held-by k c given room (some r) h = record { held = r; there = refl; passes = h }
+found-by : (k : Kind) (c : Command) (given : List ℕ) (room : ℕ) (x : Option Record) → refusalOne (named k c given room) x ≡ 0 → Found x (named k c given room)
+found-by k c given room none h = absurd (unknown-not-zero c h)
+found-by k c given room (some r) h = record { found = r; there = refl; passes = h }
 
 module _ (i : Item) (id : ℕ) (o : One) (m : meaning i ≡ The id o) (c : Card) where
   status-is : refusalOf c i ≡ refusalOne o (first (has id) (c .sets))
@@ -238,15 +238,15 @@ config-stored c bytes given room is bytes′ given′ room′ k a h k′ q a′ 
     let i = command bytes given room in
     let o = named SetConfig C given room in
     let m = command-is bytes given room SetConfig k in
-    let x = held-by SetConfig C given room (first (has id) (c .sets)) (sym (status-is i id o m c) ∙ z) in
-    let r = x .held in
+    let x = found-by SetConfig C given room (first (has id) (c .sets)) (sym (status-is i id o m c) ∙ z) in
+    let r = x .found in
     let t = touched (length (c .sets)) i r in
     let s = left-is i id o m c r (x .there) (x .passes) in
     let l = later is (after c i) id t (left-there i id o m c r (x .there)) (keeps (length (c .sets)) i r ∙ has-id i id o m c r (x .there)) h in
     let d = done-is (command bytes′ given′ room′) (featureSet (commandIn bytes′)) (named GetConfig (commandIn bytes′) given′ room′)
-    (command-is bytes′ given′ room′ GetConfig k′) (run c (i ∷ is)) (l .held) (rw q (l .there)) z′ in
-    let mode : modeNo (l .held .state) ≡ bit (enable C) = l .kept .mode ∙ ap modeNo s ∙ set-mode (enable C) (r .state .window) in
-    let config : l .held .state .config ≡ configIn given = l .kept .config ∙ ap (λ (y : State). y .config) s in
+    (command-is bytes′ given′ room′ GetConfig k′) (run c (i ∷ is)) (l .found) (rw q (l .there)) z′ in
+    let mode : modeNo (l .found .state) ≡ bit (enable C) = l .kept .mode ∙ ap modeNo s ∙ set-mode (enable C) (r .state .window) in
+    let config : l .found .state .config ≡ configIn given = l .kept .config ∙ ap (λ (y : State). y .config) s in
     d ∙ rw (mode, config)
 
 -- ---- 14h: the window, which no item changes that does not reach the set
@@ -256,16 +256,16 @@ not-reached-by (Nobody v) n id e = refl
 not-reached-by (Everybody a) n id e = cc
 not-reached-by (The named o) n id e = sym (or-false (eqb named id)) ∙ e
 
-not-reached : (i : Item) (n id : ℕ) → reaches id i ≡ false → concerns n id i ≡ false
+not-reached : (i : Item) (n id : ℕ) → reachesSet id i ≡ false → concerns n id i ≡ false
 unfolding names toAll concerns
 not-reached i n id e = not-reached-by (meaning i) n id e
 
-untouched : (is : List Item) (c : Card) (id : ℕ) → noneOf (reaches id) is ≡ true → first (has id) (run c is .sets) ≡ first (has id) (c .sets)
+untouched : (is : List Item) (c : Card) (id : ℕ) → noneOf (reachesSet id) is ≡ true → first (has id) (run c is .sets) ≡ first (has id) (c .sets)
 untouched [] c id h = refl
 untouched (i ∷ is) c id h =
     let n = length (c .sets) in
-    let b = both (not (reaches id i)) _ h in
-    let z = not-reached i n id (not-true (reaches id i) (b .0)) in
+    let b = both (not (reachesSet id i)) _ h in
+    let z = not-reached i n id (not-true (reachesSet id i) (b .0)) in
     untouched is (after c i) id (b .1)
     ∙ first-fixed (touched n i) (has id) (has-same n id i) (λ r e. touched-not n i r (rw (eqb-true (idOf r) id e) z)) (c .sets)
 
@@ -312,8 +312,8 @@ window-stored c bytes given room is bytes′ given′ room′ k a h k′ q a′ 
     let i = command bytes given room in
     let o = named SetWindow C given room in
     let m = command-is bytes given room SetWindow k in
-    let x = held-by SetWindow C given room (first (has id) (c .sets)) (sym (status-is i id o m c) ∙ z) in
-    let r = x .held in
+    let x = found-by SetWindow C given room (first (has id) (c .sets)) (sym (status-is i id o m c) ∙ z) in
+    let r = x .found in
     let t = touched (length (c .sets)) i r in
     let s = left-is i id o m c r (x .there) (x .passes) in
     let f : first (has id) (run c (i ∷ is) .sets) ≡ some t = untouched is (after c i) id h ∙ left-there i id o m c r (x .there) in

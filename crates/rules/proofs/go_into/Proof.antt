@@ -1,9 +1,9 @@
 use borrow.Author.Needs.{needs}
-use Rattle.rules.proofs.enter.Statement.{statement}
-use Rattle.rules.proofs.enter.Tie as tie
+use Rattle.rules.proofs.go_into.Statement.{statement}
+use Rattle.rules.proofs.go_into.Tie as tie
 
-pub enter-spec : {M : Type 1} → statement M
-enter-spec =
+pub go-into-spec : {M : Type 1} → statement M
+go-into-spec =
     tie.close
     (tie.spec
     (λ c κs. search needs)

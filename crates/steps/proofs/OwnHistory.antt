@@ -21,7 +21,7 @@ use Rattle.steps.specs.Meanings.{meaning}
 use Rattle.steps.specs.Card.{refusalAll, refusalBy, refusalOf, effectOn, ruled, has, names, namesBy, concerns, concernsBy, touched, after, answer, run, trace}
 use Rattle.steps.specs.Demands.{alone, toAllBy, toAll, owns, own, OwnRecord, lived, ByRules, OwnAnswers, Joined, raises, noneCleared, raised, pending, Listed, PickedIds, Aggregate, Rising, InOrder, Swap, SwapWithin}
 use Rattle.octets.proofs.Lists.{if-ap, if-cons, map-id, map-same, map-same-if, nth-map, keep-same, keep-map, first-map, first-fixed}
-use Rattle.steps.proofs.Shapes.{bool-cases, named, unnamed, answers, fewer-all, fewer, touched-own, touched-not, keeps}
+use Rattle.steps.proofs.ItemShapes.{bool-cases, named, unnamed, answers, fewer-all, fewer, touched-own, touched-not, keeps}
 use Rattle.steps.proofs.Slots.{ordered, found}
 
 -- ---- the items that concern a set are those that name it and, of those that go to every set, those that are carried out

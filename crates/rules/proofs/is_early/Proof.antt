@@ -2,11 +2,11 @@ use mathlib.Core.Path.{sym, _∙_}
 use mathlib.Core.Bool.{and-false, and-true}
 use borrow.Author.Needs.{needs}
 use borrow.Author.Tests.{eq-eqb, ne-eqb}
-use Rattle.rules.proofs.too_early.Statement.{statement}
-use Rattle.rules.proofs.too_early.Tie as tie
+use Rattle.rules.proofs.is_early.Statement.{statement}
+use Rattle.rules.proofs.is_early.Tie as tie
 
-pub too-early-spec : {M : Type 1} → statement M
-too-early-spec =
+pub is-early-spec : {M : Type 1} → statement M
+is-early-spec =
     tie.close
     (tie.spec
     (λ c κs. search needs)
