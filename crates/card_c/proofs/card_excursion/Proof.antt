@@ -7,8 +7,5 @@ pub card-excursion-spec : {M : Type 1} → statement M
 card-excursion-spec =
     tie.close
     (tie.spec
-    (λ c κs. search needs)
-    (λ c κs. search needs)
-    (λ c. search needs)
-    (λ c. search needs)
+    (λ c κs. search needs) (λ c κs. search needs) (λ c. search needs) (λ c. search needs)
     (λ c. let p = c .before .before in answered-at _ _ _ _ _ _ _ _ (p .before .before .before .before .event .ensures) (p .put-reply .ensures)))

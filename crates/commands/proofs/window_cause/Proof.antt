@@ -6,6 +6,5 @@ pub window-cause-spec : {M : Type 1} → statement M
 window-cause-spec =
     tie.close
     (tie.spec
-    (λ c κs. search needs)
-    (λ c κs. search needs)
+    (λ c κs. search needs) (λ c κs. search needs)
     (λ c. simp (c .cause-by .ensures, c .before .window-value .ensures)))

@@ -17,9 +17,7 @@ clear-spec =
     Inv-loop
     μ-loop
     (λ c. clear-start _ _)
-    (λ c. search needs)
-    (λ c. search needs)
-    (λ c. search needs)
+    (λ c. search needs) (λ c. search needs) (λ c. search needs)
     (λ c. clear-turn _ _ _ _ (c .before .loop .inv) (search needs))
     (λ c. search needs)
     (λ c. clear-end _ _ _ _ (c .before .loop .inv) (search needs)))

@@ -35,14 +35,12 @@ copy-part-spec =
     μ-loop
     Inv-loop2
     μ-loop2
-    (λ c. search needs)
-    (λ c κs. search needs)
+    (λ c. search needs) (λ c κs. search needs)
     (λ c. (search needs, search needs, rw (add-zero, sub-zero)))
     (λ c. omega (arith, c .before .before .least .ensures, c .loop-test .taken))
     (λ c. omega (arith, c .before .before .before .least .ensures, c .before .loop-test .taken))
     (λ c. omega (arith, c .before .before .before .least .ensures, c .before .loop-test .taken, c .before .before .loop .inv .1))
-    (λ c. search needs)
-    (λ c. search needs)
+    (λ c. search needs) (λ c. search needs)
     (λ c.
     let l = c .before .before .loop in
     let s = c .before .before .before .before .before .before in
@@ -52,9 +50,7 @@ copy-part-spec =
       copy-turn (l .answer) (s .args .page .now) (s .args .from) (s .args .n) (l .i) h ∙ l .inv .2,
     ))
     (λ c. (c .before .loop .inv .0, c .loop-test .left, refl, refl))
-    (λ c. search needs)
-    (λ c. search needs)
-    (λ c. search needs)
+    (λ c. search needs) (λ c. search needs) (λ c. search needs)
     (λ c.
     let l = c .before .loop2 in
     let m = c .before .before .before .before in

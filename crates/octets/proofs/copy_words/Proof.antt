@@ -23,13 +23,8 @@ copy-words-spec =
     Inv-loop
     μ-loop
     (λ c. (search needs, search needs, simp add-zero))
-    (λ c. search needs)
-    (λ c. search needs)
-    (λ c. search needs)
-    (λ c. search needs)
-    (λ c. search needs)
-    (λ c. search needs)
-    (λ c. search needs)
+    (λ c. search needs) (λ c. search needs) (λ c. search needs) (λ c. search needs) (λ c. search needs)
+    (λ c. search needs) (λ c. search needs)
     (λ c.
     let l = c .before .before .loop in
     let s = c .before .before .before .args .src .now in

@@ -23,16 +23,13 @@ fill-spec =
     (tie.spec
     Inv-loop
     μ-loop
-    (λ c. search needs)
-    (λ c. search needs)
-    (λ c. search needs)
+    (λ c. search needs) (λ c. search needs) (λ c. search needs)
     (λ c κs.
     let l = c .before .before .before .loop in
     let s = c .before .before .before .before .before in
     let f = fill-fits (s .args .rows .now) (l .i) (length (s .args .page .now)) (search needs) (l .inv .2) in
     omega arith)
-    (λ c. search needs)
-    (λ c. search needs)
+    (λ c. search needs) (λ c. search needs)
     (λ c.
     let l = c .before .before .before .before .before .before .loop in
     let s = c .before .before .before .before .before .before .before .before in (

@@ -25,9 +25,7 @@ get-spec =
     (λ c. let e : c .before .args .width - c .before .args .width ≡ 0 = omega arith in (search needs, rw e, rw e (lit< tt)))
     (λ c. search needs)
     (λ c. let l = c .before .loop in record { fits = lt-of-le-of-lt (le-add-right _ 0) (in-word _ _ (more _ (l .x) 0 (l .inv .2) (lit< tt)) (search needs)) })
-    (λ c. search needs)
-    (λ c. search needs)
-    (λ c κs. search needs)
+    (λ c. search needs) (λ c. search needs) (λ c κs. search needs)
     (λ c. let l = c .before .before .before .loop in record { fits = in-word _ _ (more _ (l .x) (c .from-byte .result) (l .inv .2) (c .from-byte .ensures .1)) (search needs) })
     (λ c. search needs)
     (λ c.

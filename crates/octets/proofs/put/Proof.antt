@@ -21,11 +21,7 @@ put-spec =
     (tie.spec
     Inv-loop
     μ-loop
-    (λ c. search needs)
-    (λ c. search needs)
-    (λ c. search needs)
-    (λ c. search needs)
-    (λ c. search needs)
+    (λ c. search needs) (λ c. search needs) (λ c. search needs) (λ c. search needs) (λ c. search needs)
     (λ c. search needs)
     (λ c. let l = c .before .loop in (search needs, search needs, put-turn (l .buf) (l .to) (l .left) (l .x) (search needs) ∙ l .inv .2))
     (λ c. search needs)

@@ -10,8 +10,7 @@ enter-spec =
     (tie.spec
     (λ c κs. search needs)
     (λ c κs. legal-known _ (sym (c .before .legal .ensures) ∙ c .if1 .taken))
-    (λ c. search needs)
-    (λ c. search needs)
+    (λ c. search needs) (λ c. search needs)
     (λ c.
     let f = c .before .before .before in
     enter-found _ _ _ (sym (f .before .before .legal .ensures) ∙ f .before .if1 .taken) (sym (c .before .slot .given .1) ∙ f .find .ensures))

@@ -32,8 +32,7 @@ find-spec =
     let l = t .before .loop in
     let s = t .before .before .before .before .before in
     sym (search-here (tableIn (s .args .bytes .now)) (s .pre) (s .args .id .0) _ (l .i) (l .inv .1) (t .loop-test .taken) (sym (c .before .id-at .ensures) ∙ c .if1 .taken)) ∙ l .inv .2)
-    (λ c. search needs)
-    (λ c. search needs)
+    (λ c. search needs) (λ c. search needs)
     (λ c.
     let t = c .before .before in
     let l = t .before .loop in

@@ -16,9 +16,7 @@ fits-spec =
     tie.close
     (tie.spec
     (λ c. let b = c .before .before .args .bytes .now in sym (sized-short (tableIn b) (omega (arith, length-in b, c .if1 .taken))))
-    (λ c κs. search needs)
-    (λ c κs. search needs)
-    (λ c κs. search needs)
+    (λ c κs. search needs) (λ c κs. search needs) (λ c κs. search needs)
     (λ c.
     let n = c .before in
     let b = n .before .before .before .before .args .bytes .now in

@@ -7,7 +7,6 @@ pub id-at-spec : {M : Type 1} → statement M
 id-at-spec =
     tie.close
     (tie.spec
-    (λ c. search needs)
-    (λ c. search needs)
+    (λ c. search needs) (λ c. search needs)
     (λ c κs. omega (arith, c .before .pre))
     (λ c. c .word-of .ensures))

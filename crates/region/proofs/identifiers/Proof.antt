@@ -36,8 +36,7 @@ identifiers-spec =
     let t = c .before in
     let s = t .before .before .before .before in
     omega (arith, t .loop-test .taken, t .before .loop .inv .1, s .pre .few))
-    (λ c. search needs)
-    (λ c. search needs)
+    (λ c. search needs) (λ c. search needs)
     (λ c.
     let t = c .before in
     let l = t .before .loop in

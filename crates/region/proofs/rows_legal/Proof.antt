@@ -21,16 +21,13 @@ rows-legal-spec =
     Inv-loop
     μ-loop
     (λ c. (search needs, rw (sub-zero, c .before .pre .0)))
-    (λ c κs. search needs)
-    (λ c κs. search needs)
-    (λ c κs. search needs)
+    (λ c κs. search needs) (λ c κs. search needs) (λ c κs. search needs)
     (λ c.
     let f = c .before in
     let t = f .before .before in
     let l = t .before .loop in
     legal-stop _ _ (l .i) _ _ (l .inv .1) _ _ (t .loop-test .taken) (f .before .fetch .ensures) (f .follows .ensures) (c .if1 .left))
-    (λ c. search needs)
-    (λ c. search needs)
+    (λ c. search needs) (λ c. search needs)
     (λ c.
     let f = c .before .before in
     let t = f .before .before in

@@ -10,6 +10,5 @@ pub word-of-spec : {M : Type 1} → statement M
 word-of-spec =
     tie.close
     (tie.spec
-    (λ c. search needs)
-    (λ c κs. search needs)
+    (λ c. search needs) (λ c κs. search needs)
     (λ c. let s = c .before .before in c .word-at .ensures ∙ word-in (s .args .bytes .now) (s .args .k) (8 * s .args .k) (s .pre) (omega arith)))

@@ -19,17 +19,13 @@ first-spec =
     (tie.spec
     Inv-loop
     μ-loop
-    (λ c. search needs)
-    (λ c. search needs)
-    (λ c. search needs)
-    (λ c. search needs)
+    (λ c. search needs) (λ c. search needs) (λ c. search needs) (λ c. search needs)
     (λ c.
     let t = c .before in
     let l = t .before .before .before .loop in
     let s = t .before .before .before .before .args in
     sym (found (s .tests .now) (s .numbers .now) (l .i) (search needs) (search needs) (t .if1 .taken)) ∙ l .inv .1)
-    (λ c. search needs)
-    (λ c. search needs)
+    (λ c. search needs) (λ c. search needs)
     (λ c.
     let l = c .before .before .before .loop in
     let s = c .before .before .before .before .args in

@@ -15,8 +15,7 @@ hand-out-spec =
     let s = t .before .before .before .args in
     rw (c .refuse .ensures) (refusing (s .status) (s .dword) (padded (s .page .now) (s .from) (s .n)) (s .answer .now) (t .if1 .taken)))
     (λ c κs. let t = c .before in t .before .before .before .pre (t .if1 .left))
-    (λ c κs. search needs)
-    (λ c. search needs)
+    (λ c κs. search needs) (λ c. search needs)
     (λ c.
     let p = c .before .before .before in
     let t = p .before .before in

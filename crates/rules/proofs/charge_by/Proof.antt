@@ -11,21 +11,14 @@ pub charge-by-spec : {M : Type 1} → statement M
 charge-by-spec =
     tie.close
     (tie.spec
-    (λ c κs. search needs)
-    (λ c κs. search needs)
-    (λ c κs. search needs)
-    (λ c κs. search needs)
-    (λ c κs. search needs)
-    (λ c κs. search needs)
-    (λ c κs. search needs)
-    (λ c κs. search needs)
+    (λ c κs. search needs) (λ c κs. search needs) (λ c κs. search needs) (λ c κs. search needs) (λ c κs. search needs)
+    (λ c κs. search needs) (λ c κs. search needs) (λ c κs. search needs)
     (λ c.
     let f = c .before .before .before .before .before in
     let s = f .before .before in
     let o = sym (c .before .is-over .ensures) ∙ c .if1 .left in
     omega (arith, not-over (s .before .before .args .q) (s .before .limit-of .result) (s .spent-of .result + s .before .before .args .k) o))
-    (λ c κs. search needs)
-    (λ c κs. search needs)
+    (λ c κs. search needs) (λ c κs. search needs)
     (λ c.
     let t = c .before in
     let w = t .before .before in

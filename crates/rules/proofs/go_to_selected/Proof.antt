@@ -7,10 +7,7 @@ pub go-to-selected-spec : {M : Type 1} → statement M
 go-to-selected-spec =
     tie.close
     (tie.spec
-    (λ c κs. search needs)
-    (λ c κs. search needs)
-    (λ c κs. search needs)
-    (λ c κs. search needs)
+    (λ c κs. search needs) (λ c κs. search needs) (λ c κs. search needs) (λ c κs. search needs)
     (λ c.
     let t = c .before in
     let e = rw (t .before .before .moved .ensures) at (sym (t .before .same-window .ensures) ∙ t .if1 .taken) in

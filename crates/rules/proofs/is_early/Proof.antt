@@ -11,9 +11,7 @@ is-early-spec =
     (tie.spec
     (λ c κs. search needs)
     (λ c. simp (eq-eqb _ _ (c .if1 .taken ∙ c .before .before .need-of .ensures), and-false))
-    (λ c κs. search needs)
-    (λ c κs. search needs)
-    (λ c κs. search needs)
+    (λ c κs. search needs) (λ c κs. search needs) (λ c κs. search needs)
     (λ c.
     let l = c .before .before .before in
     simp (c .same-window2 .ensures, c .before .moved .ensures, c .before .before .same-window .ensures, ne-eqb _ _ (λ z. l .if1 .left (z ∙ sym (l .before .before .need-of .ensures))), and-true)))

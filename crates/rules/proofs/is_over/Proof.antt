@@ -6,11 +6,7 @@ pub is-over-spec : {M : Type 1} → statement M
 is-over-spec =
     tie.close
     (tie.spec
-    (λ c. search needs)
-    (λ c κs. search needs)
-    (λ c. search needs)
-    (λ c κs. search needs)
-    (λ c. search needs)
+    (λ c. search needs) (λ c κs. search needs) (λ c. search needs) (λ c κs. search needs) (λ c. search needs)
     (λ c κs. search needs)
     (λ c. simp (c .passes .ensures, c .before .enum-told .given .1))
     (λ c. simp (c .passes2 .ensures, c .before .enum-told2 .given .1))

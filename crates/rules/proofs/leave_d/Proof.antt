@@ -6,11 +6,6 @@ pub leave-d-spec : {M : Type 1} → statement M
 leave-d-spec =
     tie.close
     (tie.spec
-    (λ c κs. search needs)
-    (λ c κs. search needs)
-    (λ c κs. search needs)
-    (λ c κs. search needs)
-    (λ c κs. search needs)
-    (λ c κs. search needs)
-    (λ c κs. search needs)
+    (λ c κs. search needs) (λ c κs. search needs) (λ c κs. search needs) (λ c κs. search needs) (λ c κs. search needs)
+    (λ c κs. search needs) (λ c κs. search needs)
     (λ c. simp (c .effect-of .ensures, c .before .and-exceeded .ensures, c .before .before .started .ensures, c .before .before .before .moved .ensures, c .before .before .before .before .cause-over .ensures, c .before .before .before .before .before .carried-over .ensures, c .before .before .before .before .before .before .spent-of .ensures, c .before .before .before .before .before .before .before .pre)))

@@ -10,7 +10,6 @@ extent-spec =
     tie.close
     (tie.spec
     (λ c. let s = c .before .args in rw (room-many (s .n) (s .room) (omega arith)))
-    (λ c. search needs)
-    (λ c. search needs)
+    (λ c. search needs) (λ c. search needs)
     (λ c. let s = c .before .before .args in rw (room-few (s .n) (s .room) (omega arith), c .if2 .taken))
     (λ c. let s = c .before .before .args in rw (room-few (s .n) (s .room) (omega arith), c .if2 .left)))

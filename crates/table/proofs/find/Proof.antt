@@ -18,23 +18,17 @@ find-spec =
     (tie.spec
     Inv-loop
     μ-loop
-    (λ c. search needs)
-    (λ c κs. search needs)
-    (λ c. search needs)
+    (λ c. search needs) (λ c κs. search needs) (λ c. search needs)
     (λ c.
     let w = c .before .to-size .ensures in
     (search needs, w, search-start _ _ _ w))
-    (λ c. search needs)
-    (λ c. search needs)
-    (λ c. search needs)
-    (λ c. search needs)
+    (λ c. search needs) (λ c. search needs) (λ c. search needs) (λ c. search needs)
     (λ c.
     let t = c .before .before in
     let l = t .before .loop in
     let s = t .before .before .before .before .before .before in
     sym (search-here (s .args .table .now) (s .pre) (s .args .id .0) _ (l .i) (l .inv .1) (t .loop-test .taken) (c .if1 .taken)) ∙ l .inv .2)
-    (λ c. search needs)
-    (λ c. search needs)
+    (λ c. search needs) (λ c. search needs)
     (λ c.
     let t = c .before .before in
     let l = t .before .loop in

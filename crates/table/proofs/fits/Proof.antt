@@ -11,10 +11,7 @@ fits-spec =
     tie.close
     (tie.spec
     (λ c. sym (sized-short (c .before .before .args .table .now) (c .if1 .taken)))
-    (λ c. search needs)
-    (λ c. search needs)
-    (λ c κs. search needs)
-    (λ c κs. search needs)
+    (λ c. search needs) (λ c. search needs) (λ c κs. search needs) (λ c κs. search needs)
     (λ c.
     let ws = c .before .before .before .before .before .before .args .table .now in
     rw (c .extent .ensures, c .before .to-size .ensures, some-extent (count ws) (length ws))))

@@ -19,19 +19,14 @@ listed-word-spec =
     (tie.spec
     Inv-loop
     μ-loop
-    (λ c. search needs)
-    (λ c κs. search needs)
+    (λ c. search needs) (λ c κs. search needs)
     (λ c. (search needs, rw (c .to-size .ensures) (gathered-none _ _)))
     (λ c. search needs)
     (λ c.
     let l = c .before .loop in
     let s = c .before .before .before .before .before in
     omega (arith, gathered-fits (s .args .table .now) (s .pre) (l .i) (l .word) (l .inv .1)))
-    (λ c. search needs)
-    (λ c. search needs)
-    (λ c. search needs)
-    (λ c. search needs)
-    (λ c. search needs)
+    (λ c. search needs) (λ c. search needs) (λ c. search needs) (λ c. search needs) (λ c. search needs)
     (λ c.
     let l = c .before .before .loop in
     let s = c .before .before .before .before .before .before in

@@ -8,8 +8,7 @@ pub charge-rule-spec : {M : Type 1} → statement M
 charge-rule-spec =
     tie.close
     (tie.spec
-    (λ c κs. search needs)
-    (λ c κs. search needs)
+    (λ c κs. search needs) (λ c κs. search needs)
     (λ c.
     let s = c .before .before .before in
     simp (c .after-event .ensures ∙ media-ruled (s .args .m) (s .args .r), ← c .before .before .record-legal .ensures, c .before .if1 .taken))

@@ -6,6 +6,5 @@ pub after-clearing-spec : {M : Type 1} → statement M
 after-clearing-spec =
     tie.close
     (tie.spec
-    (λ c κs. search needs)
-    (λ c κs. search needs)
+    (λ c κs. search needs) (λ c κs. search needs)
     (λ c. simp (c .settle .ensures, c .before .clearing-read .ensures)))

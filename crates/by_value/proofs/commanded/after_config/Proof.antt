@@ -6,8 +6,5 @@ pub after-config-spec : {M : Type 1} → statement M
 after-config-spec =
     tie.close
     (tie.spec
-    (λ c κs. search needs)
-    (λ c κs. search needs)
-    (λ c κs. search needs)
-    (λ c κs. search needs)
+    (λ c κs. search needs) (λ c κs. search needs) (λ c κs. search needs) (λ c κs. search needs)
     (λ c. simp (c .settle .ensures, c .before .set-mode .ensures, c .before .before .config-in .ensures, c .before .before .before .enables .ensures)))

@@ -6,6 +6,5 @@ pub after-still-spec : {M : Type 1} → statement M
 after-still-spec =
     tie.close
     (tie.spec
-    (λ c κs. search needs)
-    (λ c κs. search needs)
+    (λ c κs. search needs) (λ c κs. search needs)
     (λ c. simp (c .settle .ensures, c .before .keep-still .ensures)))

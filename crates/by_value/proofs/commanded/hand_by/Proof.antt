@@ -9,25 +9,16 @@ pub hand-by-spec : {M : Type 1} → statement M
 hand-by-spec =
     tie.close
     (tie.spec
-    (λ c. search needs)
-    (λ c κs. search needs)
-    (λ c. search needs)
-    (λ c κs. search needs)
-    (λ c. search needs)
+    (λ c. search needs) (λ c κs. search needs) (λ c. search needs) (λ c κs. search needs) (λ c. search needs)
     (λ c κs.
     let e = c .before in
     rw (e .enum-told3 .given .1) at (e .before .before .before .pre .2))
-    (λ c. search needs)
-    (λ c κs. search needs)
-    (λ c. search needs)
+    (λ c. search needs) (λ c κs. search needs) (λ c. search needs)
     (λ c κs.
     let e = c .before in
     let p = rw (e .enum-told5 .given .1) at (e .before .before .before .pre) in
     (p .1 refl, p .2))
-    (λ c. search needs)
-    (λ c κs. search needs)
-    (λ c. search needs)
-    (λ c κs. search needs)
+    (λ c. search needs) (λ c κs. search needs) (λ c. search needs) (λ c κs. search needs)
     (λ c. rw (c .done .ensures, c .before .enum-told .given .1) (no-data 0 _))
     (λ c. rw (c .done2 .ensures, c .before .enum-told2 .given .1) (no-data 0 _))
     (λ c. search needs)

@@ -8,21 +8,14 @@ pub hand-latency-spec : {M : Type 1} → statement M
 hand-latency-spec =
     tie.close
     (tie.spec
-    (λ c κs. search needs)
-    (λ c κs. search needs)
-    (λ c κs. search needs)
-    (λ c κs. search needs)
-    (λ c. search needs)
+    (λ c κs. search needs) (λ c κs. search needs) (λ c κs. search needs) (λ c κs. search needs) (λ c. search needs)
     (λ c.
     let o = c .before .before .before in
     let t = o .before .before in
     let n = t .before .before in
     let s = n .before .before .before in
     rw (c .give .ensures) (whole-latency (s .args .c) (s .args .r) _ _ (s .args .answer .now) _ (n .before .offset-of .ensures) (n .needs-out .ensures) (t .before .if1 .taken) (t .if2 .taken) (search needs) (o .latency-onto .ensures)))
-    (λ c κs. search needs)
-    (λ c. search needs)
-    (λ c κs. search needs)
-    (λ c. search needs)
+    (λ c κs. search needs) (λ c. search needs) (λ c κs. search needs) (λ c. search needs)
     (λ c.
     let h = c .before .before in
     let p = h .before .before .before in

@@ -7,6 +7,5 @@ pub hand-window-spec : {M : Type 1} → statement M
 hand-window-spec =
     tie.close
     (tie.spec
-    (λ c κs. search needs)
-    (λ c κs. search needs)
+    (λ c κs. search needs) (λ c κs. search needs)
     (λ c. λ x before. rw (c .give .ensures, c .before .window-word .ensures) (no-data _ before)))

@@ -6,6 +6,5 @@ pub after-event-spec : {M : Type 1} → statement M
 after-event-spec =
     tie.close
     (tie.spec
-    (λ c κs. search needs)
-    (λ c κs. search needs)
+    (λ c κs. search needs) (λ c κs. search needs)
     (λ c. simp (c .settle .ensures, c .before .media-event .ensures)))

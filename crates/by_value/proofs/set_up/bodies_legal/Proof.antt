@@ -22,17 +22,13 @@ bodies-legal-spec =
     Inv-loop
     μ-loop
     (λ c. (search needs, search needs, rw sub-zero))
-    (λ c κs. search needs)
-    (λ c κs. search needs)
-    (λ c. search needs)
+    (λ c κs. search needs) (λ c κs. search needs) (λ c. search needs)
     (λ c.
     let f = c .before in
     let t = f .before .before in
     let l = t .before .loop in
     legal-stop _ _ (l .i) (l .at) _ _ (l .inv .2) _ _ (t .loop-test .taken) (f .before .attributes-in .ensures) (f .follows .ensures) (c .if1 .left))
-    (λ c. search needs)
-    (λ c. search needs)
-    (λ c. search needs)
+    (λ c. search needs) (λ c. search needs) (λ c. search needs)
     (λ c.
     let f = c .before .before in
     let t = f .before .before in

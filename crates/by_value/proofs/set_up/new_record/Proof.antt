@@ -6,6 +6,5 @@ pub new-record-spec : {M : Type 1} → statement M
 new-record-spec =
     tie.close
     (tie.spec
-    (λ c κs. search needs)
-    (λ c κs. search needs)
+    (λ c κs. search needs) (λ c κs. search needs)
     (λ c. simp (c .no-events .ensures, c .before .new-state .ensures)))

@@ -14,12 +14,9 @@ pub answer-aggregate-spec : {M : Type 1} → statement M
 answer-aggregate-spec =
     tie.close
     (tie.spec
-    (λ c κs. search needs)
-    (λ c κs. search needs)
+    (λ c κs. search needs) (λ c κs. search needs)
     (λ c κs. let t = c .before in legal-known _ (sym (t .before .legal .ensures) ∙ t .if1 .taken))
-    (λ c κs. search needs)
-    (λ c κs. search needs)
-    (λ c. search needs)
+    (λ c κs. search needs) (λ c κs. search needs) (λ c. search needs)
     (λ c κs.
     let n = c .before .before in
     let o = n .before in
@@ -28,8 +25,7 @@ answer-aggregate-spec =
     λ z.
     let f = view-fine ReadAggregate (s .args .c) (s .args .given) (length (s .args .answer .now)) _ (s .pre .0) (v .view-status .ensures) z in
     (omega (arith, f .start refl, o .offset-of .ensures), omega (arith, f .outward, n .needs-out .ensures)))
-    (λ c κs. search needs)
-    (λ c. search needs)
+    (λ c κs. search needs) (λ c. search needs)
     (λ c.
     let h = c .before .before in
     let n = h .before .before .before in

@@ -13,19 +13,14 @@ pub answer-identify-spec : {M : Type 1} → statement M
 answer-identify-spec =
     tie.close
     (tie.spec
-    (λ c κs. search needs)
-    (λ c κs. search needs)
-    (λ c κs. search needs)
+    (λ c κs. search needs) (λ c κs. search needs) (λ c κs. search needs)
     (λ c κs.
     let t = c .before .before in
     let v = t .before in
     let l = v .before in
     let s = l .before .before .before .before in
     (legal-known _ (sym (l .before .legal .ensures) ∙ l .if1 .taken), view-fine Identify (s .args .c) (s .args .given) (length (s .args .answer .now)) _ (s .pre .0) (v .view-status .ensures) (t .if2 .taken) .outward))
-    (λ c κs. search needs)
-    (λ c κs. search needs)
-    (λ c κs. search needs)
-    (λ c. search needs)
+    (λ c κs. search needs) (λ c κs. search needs) (λ c κs. search needs) (λ c. search needs)
     (λ c.
     let o = c .before .before .before in
     let q = o .before .before in

@@ -11,16 +11,8 @@ pub answer-named-spec : {M : Type 1} → statement M
 answer-named-spec =
     tie.close
     (tie.spec
-    (λ c κs. search needs)
-    (λ c κs. search needs)
-    (λ c. search needs)
-    (λ c κs. search needs)
-    (λ c κs. search needs)
-    (λ c κs. search needs)
-    (λ c. search needs)
-    (λ c κs. search needs)
-    (λ c κs. search needs)
-    (λ c κs. search needs)
+    (λ c κs. search needs) (λ c κs. search needs) (λ c. search needs) (λ c κs. search needs) (λ c κs. search needs)
+    (λ c κs. search needs) (λ c. search needs) (λ c κs. search needs) (λ c κs. search needs) (λ c κs. search needs)
     (λ c. search needs)
     (λ c κs.
     let m = c .before .before .before in
@@ -39,8 +31,7 @@ answer-named-spec =
     let n = c .before .before .before .before .before in
     let s = n .before .before .before .before .before .before .args in
     λ i m. named-unknown _ (s .k) (s .c) (s .given .now) (s .answer .now) _ (rw (n .before .named-by .ensures) at (n .enter .ensures)) i m _ _ e (c .before .before .unknown-status2 .ensures) (c .refuse2 .ensures ∙ ap refusing (c .before .entry-no2 .ensures ∙ ap (entryNo _) e)))
-    (λ c. search needs)
-    (λ c. search needs)
+    (λ c. search needs) (λ c. search needs)
     (λ c.
     let a = c .before .before .before .before in
     let e = a .before .before .before .before in

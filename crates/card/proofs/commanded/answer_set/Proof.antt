@@ -7,8 +7,7 @@ pub answer-set-spec : {M : Type 1} → statement M
 answer-set-spec =
     tie.close
     (tie.spec
-    (λ c κs. search needs)
-    (λ c κs. search needs)
+    (λ c κs. search needs) (λ c κs. search needs)
     (λ c κs.
     let t = c .before in
     let s = t .before .before .before .before .before .before .before in
@@ -19,9 +18,7 @@ answer-set-spec =
     let s = t .before .before .before .before .before .before .before in
     let f = fine-on _ _ _ _ _ _ (s .pre .0) (t .before .status-on .ensures) (t .if1 .taken) in
     (s .pre .1, f .start, f .outward))
-    (λ c κs. search needs)
-    (λ c. search needs)
-    (λ c. search needs)
+    (λ c κs. search needs) (λ c. search needs) (λ c. search needs)
     (λ c.
     let h = c .before .before in
     let w = h .before .before .before .before in

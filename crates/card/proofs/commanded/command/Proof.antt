@@ -10,14 +10,8 @@ pub command-spec : {M : Type 1} → statement M
 command-spec =
     tie.close
     (tie.spec
-    (λ c κs. search needs)
-    (λ c κs. search needs)
-    (λ c κs. search needs)
-    (λ c κs. search needs)
-    (λ c κs. search needs)
-    (λ c κs. search needs)
-    (λ c. search needs)
-    (λ c. search needs)
+    (λ c κs. search needs) (λ c κs. search needs) (λ c κs. search needs) (λ c κs. search needs) (λ c κs. search needs)
+    (λ c κs. search needs) (λ c. search needs) (λ c. search needs)
     (λ c.
     let a = c .before .before .before .before in
     let t = a .before .before .before in
@@ -25,8 +19,7 @@ command-spec =
     let s = k .before .before .before .before .before .before .args in
     a .answer-named .ensures (command (s .bytes .now) (s .given .now) (length (s .answer .now)))
     (is-named (s .bytes .now) (s .given .now) (length (s .answer .now)) _ _ (k .before .command-in .ensures) (k .kind-of .ensures) (sym (t .before .is-named .ensures) ∙ t .if1 .taken)))
-    (λ c. search needs)
-    (λ c. search needs)
+    (λ c. search needs) (λ c. search needs)
     (λ c.
     let a = c .before .before in
     let t = a .before .before .before in

@@ -11,19 +11,12 @@ pub event-spec : {M : Type 1} → statement M
 event-spec =
     tie.close
     (tie.spec
-    (λ c κs. search needs)
-    (λ c. search needs)
-    (λ c κs. search needs)
-    (λ c κs. search needs)
-    (λ c. search needs)
-    (λ c κs. search needs)
-    (λ c κs. search needs)
-    (λ c. search needs)
+    (λ c κs. search needs) (λ c. search needs) (λ c κs. search needs) (λ c κs. search needs) (λ c. search needs)
+    (λ c κs. search needs) (λ c κs. search needs) (λ c. search needs)
     (λ c κs. let m = c .before .before in entered _ _ _ _ (m .before .before .enter .ensures) (m .e .given .1))
     (λ c κs. search needs)
     (λ c κs. let m = c .before .before .before .before .before in entered _ _ _ _ (m .before .before .enter .ensures) (m .e .given .1))
-    (λ c κs. search needs)
-    (λ c. search needs)
+    (λ c κs. search needs) (λ c. search needs)
     (λ c.
     let e = c .before .before .enum-told .given .1 in
     let p = c .before .before .before .before in

@@ -23,11 +23,7 @@ tick-all-spec =
     Inv-loop
     μ-loop
     (λ c. (search needs, search needs, all-start _ _ _ (c .before .pre .0)))
-    (λ c κs. search needs)
-    (λ c κs. search needs)
-    (λ c κs. search needs)
-    (λ c. search needs)
-    (λ c. search needs)
+    (λ c κs. search needs) (λ c κs. search needs) (λ c κs. search needs) (λ c. search needs) (λ c. search needs)
     (λ c.
     let s = c .before .before in
     let d = s .before .before .before in

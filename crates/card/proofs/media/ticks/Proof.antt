@@ -10,17 +10,13 @@ pub ticks-spec : {M : Type 1} → statement M
 ticks-spec =
     tie.close
     (tie.spec
-    (λ c κs. search needs)
-    (λ c κs. search needs)
-    (λ c. search needs)
+    (λ c κs. search needs) (λ c κs. search needs) (λ c. search needs)
     (λ c. let t = c .before .before in tick-long _ _ _ _ (sym (t .before .legal .ensures) ∙ t .if1 .taken) (c .before .if2 .taken) (c .refuse .ensures))
     (λ c κs. let t = c .before .before in omega (arith, legal-known _ (sym (t .before .legal .ensures) ∙ t .if1 .taken) .room))
     (λ c κs.
     let t = c .before .before .before .before in
     (c .before .count-of .ensures, legal-known _ (sym (t .before .legal .ensures) ∙ t .if1 .taken)))
-    (λ c κs. search needs)
-    (λ c κs. search needs)
-    (λ c. search needs)
+    (λ c κs. search needs) (λ c κs. search needs) (λ c. search needs)
     (λ c.
     let s = c .before .before .before .before .before .before .before in
     let t = s .before in

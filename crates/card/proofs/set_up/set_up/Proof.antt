@@ -12,8 +12,7 @@ pub set-up-spec : {M : Type 1} → statement M
 set-up-spec =
     tie.close
     (tie.spec
-    (λ c κs. search needs)
-    (λ c. search needs)
+    (λ c κs. search needs) (λ c. search needs)
     (λ c κs.
     let t = c .before .before in
     let w = well _ _ _ (t .before .refusal .ensures) (t .if1 .taken) in

@@ -25,11 +25,7 @@ write-rows-spec =
     Inv-loop
     μ-loop
     (λ c. (search needs, search needs, search needs, let s = c .before .before .args in rows-start (s .table .now) (s .bytes .now) (s .n)))
-    (λ c κs. search needs)
-    (λ c κs. search needs)
-    (λ c κs. search needs)
-    (λ c. search needs)
-    (λ c. search needs)
+    (λ c κs. search needs) (λ c κs. search needs) (λ c κs. search needs) (λ c. search needs) (λ c. search needs)
     (λ c. search needs)
     (λ c.
     let s = c .before .before in

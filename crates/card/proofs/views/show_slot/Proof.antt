@@ -6,7 +6,5 @@ pub show-slot-spec : {M : Type 1} → statement M
 show-slot-spec =
     tie.close
     (tie.spec
-    (λ c κs. search needs)
-    (λ c κs. search needs)
-    (λ c. search needs)
+    (λ c κs. search needs) (λ c κs. search needs) (λ c. search needs)
     (λ c. rw (c .before .before .before .before .before .load .ensures) at (c .before .before .show .ensures)))

@@ -17,20 +17,13 @@ change-spec =
     (λ c κs.
     let e = c .before in
     rw (e .enum-told .given .1) at (e .before .before .before .before .pre .2))
-    (λ c κs. search needs)
-    (λ c. search needs)
-    (λ c κs. search needs)
+    (λ c κs. search needs) (λ c. search needs) (λ c κs. search needs)
     (λ c κs.
     let e = c .before .before in
     let s = e .before .before .before .before in
     (s .pre .0, is-moved (recordAt (s .args .region .now) (s .args .slot .0)) (s .args .r) (selecting (windowCause (s .args .c)) (s .args .r .attributes) (s .args .r .state)) _ (s .pre .1) (select-stays (windowCause (s .args .c)) (s .args .r .attributes) (s .args .r .state)) (c .after-window .ensures)))
-    (λ c. search needs)
-    (λ c. search needs)
-    (λ c. search needs)
-    (λ c κs. search needs)
-    (λ c. search needs)
-    (λ c. search needs)
-    (λ c. search needs)
+    (λ c. search needs) (λ c. search needs) (λ c. search needs) (λ c κs. search needs) (λ c. search needs)
+    (λ c. search needs) (λ c. search needs)
     (λ c.
     let w = c .before .before in
     let e = w .before .before .before in

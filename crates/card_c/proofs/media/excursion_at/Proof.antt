@@ -11,8 +11,7 @@ pub excursion-at-spec : {M : Type 1} → statement M
 excursion-at-spec =
     tie.close
     (tie.spec
-    (λ c κs. search needs)
-    (λ c κs. search needs)
+    (λ c κs. search needs) (λ c κs. search needs)
     (λ c κs.
     let l = c .before .before .before in
     let s = l .before .before .before in

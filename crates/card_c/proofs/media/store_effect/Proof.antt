@@ -9,8 +9,7 @@ pub store-effect-spec : {M : Type 1} → statement M
 store-effect-spec =
     tie.close
     (tie.spec
-    (λ c κs. search needs)
-    (λ c κs. search needs)
+    (λ c κs. search needs) (λ c κs. search needs)
     (λ c κs.
     let t = c .before .before in
     let s = t .before .before .before in

@@ -27,8 +27,7 @@ tick-all-spec =
     let l = t .before .loop in
     let s = t .before .before .before in
     undone-legal (tickOne (s .args .t)) (s .args .region .now) (s .args .n) (l .region) (l .i) (s .pre .0) (s .pre .1) (t .loop-test .taken) (l .inv))
-    (λ c. search needs)
-    (λ c. search needs)
+    (λ c. search needs) (λ c. search needs)
     (λ c.
     let d = c .before .before in
     let t = d .before .before in

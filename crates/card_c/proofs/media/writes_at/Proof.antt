@@ -11,8 +11,7 @@ pub writes-at-spec : {M : Type 1} → statement M
 writes-at-spec =
     tie.close
     (tie.spec
-    (λ c κs. search needs)
-    (λ c κs. search needs)
+    (λ c κs. search needs) (λ c κs. search needs)
     (λ c κs.
     let l = c .before .before .before .before in
     let s = l .before .before .before in

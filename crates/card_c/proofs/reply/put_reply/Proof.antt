@@ -9,11 +9,7 @@ pub put-reply-spec : {M : Type 1} → statement M
 put-reply-spec =
     tie.close
     (tie.spec
-    (λ c κs. search needs)
-    (λ c κs. search needs)
-    (λ c. search needs)
-    (λ c κs. search needs)
-    (λ c. search needs)
+    (λ c κs. search needs) (λ c κs. search needs) (λ c. search needs) (λ c κs. search needs) (λ c. search needs)
     (λ c. let t = c .before .before .before .before in
     let a = t .before .before .args in
     simp (part-whole (a .dword) (a .len) (length (a .reply .now)) (t .if1 .taken)) (c .before .before .put-whole .ensures))

@@ -7,11 +7,7 @@ pub put-whole-spec : {M : Type 1} → statement M
 put-whole-spec =
     tie.close
     (tie.spec
-    (λ c κs. search needs)
-    (λ c κs. search needs)
-    (λ c κs. search needs)
-    (λ c κs. search needs)
-    (λ c. search needs)
+    (λ c κs. search needs) (λ c κs. search needs) (λ c κs. search needs) (λ c κs. search needs) (λ c. search needs)
     (λ c.
     let p = c .before .before in
     let q = p .before .before .before .before in

@@ -10,8 +10,5 @@ unfolding replyPage
 reply-page-spec =
     tie.close
     (tie.spec
-    (λ c κs. search needs)
-    (λ c. search needs)
-    (λ c. search needs)
-    (λ c κs. search needs)
+    (λ c κs. search needs) (λ c. search needs) (λ c. search needs) (λ c κs. search needs)
     (λ c. c .before .fill .ensures ∙ rw (c .before .before .before .before .from-size .ensures) (placed 16 _)))

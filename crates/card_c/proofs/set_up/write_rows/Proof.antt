@@ -28,8 +28,7 @@ write-rows-spec =
     let t = c .before .before .before .before .before .before in
     let s = t .before .before .before .before in
     omega (arith, t .loop-test .taken, t .before .loop .inv .place, s .pre .0))
-    (λ c. search needs)
-    (λ c. search needs)
+    (λ c. search needs) (λ c. search needs)
     (λ c.
     let s = c .before .before in
     let a = s .before .before .before in

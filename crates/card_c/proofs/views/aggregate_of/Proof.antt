@@ -11,11 +11,7 @@ aggregate-of-spec =
     tie.close
     (tie.spec
     (λ c κs. let s = c .before in omega (arith, s .pre .some, s .pre .room, length-in (s .args .region .now)))
-    (λ c κs. search needs)
-    (λ c κs. search needs)
-    (λ c. search needs)
-    (λ c. search needs)
-    (λ c. search needs)
+    (λ c κs. search needs) (λ c κs. search needs) (λ c. search needs) (λ c. search needs) (λ c. search needs)
     (λ c κs.
     let w = c .before .before in
     let i = w .before in

@@ -9,10 +9,7 @@ pub set-list-onto-spec : {M : Type 1} → statement M
 set-list-onto-spec =
     tie.close
     (tie.spec
-    (λ c κs. search needs)
-    (λ c κs. search needs)
-    (λ c κs. search needs)
-    (λ c. search needs)
+    (λ c κs. search needs) (λ c κs. search needs) (λ c κs. search needs) (λ c. search needs)
     (λ c.
     let p = c .before .before in
     let h = p .before .before .before .before in

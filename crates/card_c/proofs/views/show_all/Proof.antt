@@ -30,8 +30,7 @@ show-all-spec =
     let s = n .before .before .before in
     let g = going-room (s .args .page .now) (tableIn (s .args .region .now)) (s .args .from .0) _ (n .count-of .ensures) (l .page) (l .to) (l .i) (c .before .loop-test .taken) (l .inv .2 (n .count-of .ensures)) in
     (g, omega (arith, s .pre .0 .room, n .count-of .ensures, c .before .loop-test .taken, length-in (s .args .region .now))))
-    (λ c. search needs)
-    (λ c. search needs)
+    (λ c. search needs) (λ c. search needs)
     (λ c.
     let h = c .before .before in
     let t = h .before .before in

@@ -8,8 +8,7 @@ pub kind-of-spec : {M : Type 1} → statement M
 kind-of-spec =
     tie.close
     (tie.spec
-    (λ c κs. search needs)
-    (λ c κs. search needs)
+    (λ c κs. search needs) (λ c κs. search needs)
     (λ c.
     let o = c .before in let r = o .before in
     sym (set-config _ _ (sym (r .before .opcode-of .ensures) ∙ o .if1 .taken) (sym (r .chosen-by .ensures) ∙ c .if2 .taken)))

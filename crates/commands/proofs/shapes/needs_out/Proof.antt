@@ -6,9 +6,7 @@ pub needs-out-spec : {M : Type 1} → statement M
 needs-out-spec =
     tie.close
     (tie.spec
-    (λ c κs. search needs)
-    (λ c κs. search needs)
-    (λ c. search needs)
+    (λ c κs. search needs) (λ c κs. search needs) (λ c. search needs)
     (λ c.
     let b = c .before in
     simp (c .dwords-of .ensures, rw (b .before .shape-of .ensures) at (b .if1 .taken)))

@@ -7,10 +7,7 @@ pub early-status-spec : {M : Type 1} → statement M
 early-status-spec =
     tie.close
     (tie.spec
-    (λ c κs. search needs)
-    (λ c κs. search needs)
-    (λ c κs. search needs)
-    (λ c κs. search needs)
+    (λ c κs. search needs) (λ c κs. search needs) (λ c κs. search needs) (λ c κs. search needs)
     (λ c.
     let m = c .before in
     let o = m .before .before in

@@ -8,8 +8,7 @@ pub found-status-spec : {M : Type 1} → statement M
 found-status-spec =
     tie.close
     (tie.spec
-    (λ c κs. search needs)
-    (λ c κs. search needs)
+    (λ c κs. search needs) (λ c κs. search needs)
     (λ c.
     let s = c .before .before in
     let a = s .args in

@@ -6,9 +6,7 @@ pub is-off-spec : {M : Type 1} → statement M
 is-off-spec =
     tie.close
     (tie.spec
-    (λ c κs. search needs)
-    (λ c κs. search needs)
-    (λ c κs. search needs)
+    (λ c κs. search needs) (λ c κs. search needs) (λ c κs. search needs)
     (λ c.
     let b = c .before .before in
     simp (c .refuses .ensures, c .before .select-of .ensures, rw (b .before .shape-of .ensures) at (b .if1 .taken)))

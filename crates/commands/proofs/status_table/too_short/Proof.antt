@@ -6,6 +6,5 @@ pub too-short-spec : {M : Type 1} → statement M
 too-short-spec =
     tie.close
     (tie.spec
-    (λ c κs. search needs)
-    (λ c κs. search needs)
+    (λ c κs. search needs) (λ c κs. search needs)
     (λ c. simp (c .needs-out .ensures, c .before .needs-in .ensures)))

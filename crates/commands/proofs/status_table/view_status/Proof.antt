@@ -10,9 +10,7 @@ pub view-status-spec : {M : Type 1} → statement M
 view-status-spec =
     tie.close
     (tie.spec
-    (λ c κs. search needs)
-    (λ c κs. search needs)
-    (λ c κs. search needs)
+    (λ c κs. search needs) (λ c κs. search needs) (λ c κs. search needs)
     (λ c.
     let s = c .before .before .before in
     let a = s .args in

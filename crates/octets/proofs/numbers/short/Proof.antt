@@ -9,8 +9,7 @@ pub short-spec : {M : Type 1} → statement M
 short-spec =
     tie.close
     (tie.spec
-    (λ c κs. search needs)
-    (λ c. search needs)
+    (λ c κs. search needs) (λ c. search needs)
     (λ c.
     let k = c .before .shared-slice-known .given in
     let s = c .before .before .args in

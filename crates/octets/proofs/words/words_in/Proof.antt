@@ -28,11 +28,7 @@ words-in-spec =
     Inv-loop
     μ-loop
     (λ c. (search needs, search needs, search needs, rw sub-zero))
-    (λ c κs. search needs)
-    (λ c. search needs)
-    (λ c. search needs)
-    (λ c. search needs)
-    (λ c. search needs)
+    (λ c κs. search needs) (λ c. search needs) (λ c. search needs) (λ c. search needs) (λ c. search needs)
     (λ c. search needs)
     (λ c.
     let l = c .before .before .loop in

@@ -8,11 +8,7 @@ pub aggregate-page-spec : {M : Type 1} → statement M
 aggregate-page-spec =
     tie.close
     (tie.spec
-    (λ c. search needs)
-    (λ c κs. search needs)
-    (λ c κs. search needs)
-    (λ c. search needs)
-    (λ c κs. search needs)
+    (λ c. search needs) (λ c κs. search needs) (λ c κs. search needs) (λ c. search needs) (λ c κs. search needs)
     (λ c.
     let e = c .before in
     let p = e .before .before .before in

@@ -14,11 +14,7 @@ pub put-lowest-spec : {M : Type 1} → statement M
 put-lowest-spec =
     tie.close
     (tie.spec
-    (λ c κs. search needs)
-    (λ c κs. search needs)
-    (λ c. search needs)
-    (λ c κs. search needs)
-    (λ c. search needs)
+    (λ c κs. search needs) (λ c κs. search needs) (λ c. search needs) (λ c κs. search needs) (λ c. search needs)
     (λ c.
     let p = c .before .before in
     let i = p .before .before .before in

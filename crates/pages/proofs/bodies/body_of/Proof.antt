@@ -11,6 +11,5 @@ unfolding body
 body-of-spec =
     tie.close
     (tie.spec
-    (λ c. search needs)
-    (λ c κs. search needs)
+    (λ c. search needs) (λ c κs. search needs)
     (λ c. c .before .put-body .ensures ∙ placed bodySize _))

@@ -11,9 +11,7 @@ unfolding configPage
 config-onto-spec =
     tie.close
     (tie.spec
-    (λ c κs. search needs)
-    (λ c κs. search needs)
-    (λ c. search needs)
+    (λ c κs. search needs) (λ c κs. search needs) (λ c. search needs)
     (λ c.
     let p = c .before .before in
     let z = p .before .before .before .before in

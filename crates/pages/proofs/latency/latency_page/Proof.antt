@@ -11,6 +11,5 @@ unfolding latencyPage
 latency-page-spec =
     tie.close
     (tie.spec
-    (λ c. search needs)
-    (λ c κs. search needs)
+    (λ c. search needs) (λ c κs. search needs)
     (λ c. c .before .put-latency .ensures ∙ placed latencySize _))

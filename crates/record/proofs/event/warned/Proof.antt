@@ -6,6 +6,5 @@ pub warned-spec : {M : Type 1} → statement M
 warned-spec =
     tie.close
     (tie.spec
-    (λ c κs. search needs)
-    (λ c κs. search needs)
+    (λ c κs. search needs) (λ c κs. search needs)
     (λ c. simp (c .threshold-of .ensures, c .before .enabled-by .ensures)))

@@ -6,9 +6,7 @@ pub record-legal-spec : {M : Type 1} → statement M
 record-legal-spec =
     tie.close
     (tie.spec
-    (λ c κs. search needs)
-    (λ c κs. search needs)
-    (λ c κs. search needs)
+    (λ c κs. search needs) (λ c κs. search needs) (λ c κs. search needs)
     (λ c.
     let y = c .before in
     let x = y .before .before in

@@ -6,6 +6,5 @@ pub same-window-spec : {M : Type 1} → statement M
 same-window-spec =
     tie.close
     (tie.spec
-    (λ c κs. search needs)
-    (λ c κs. search needs)
+    (λ c κs. search needs) (λ c κs. search needs)
     (λ c. simp (c .window-no2 .ensures .0, c .before .window-no .ensures .0)))

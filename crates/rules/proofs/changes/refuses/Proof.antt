@@ -8,11 +8,7 @@ pub refuses-spec : {M : Type 1} → statement M
 refuses-spec =
     tie.close
     (tie.spec
-    (λ c κs. search needs)
-    (λ c. search needs)
-    (λ c. search needs)
-    (λ c. search needs)
-    (λ c. search needs)
+    (λ c κs. search needs) (λ c. search needs) (λ c. search needs) (λ c. search needs) (λ c. search needs)
     (λ c. search needs)
     (λ c. sym (ap isRefuse (sym (c .before .before .entry .ensures) ∙ c .enum-told .given .1)))
     (λ c. sym (ap isRefuse (sym (c .before .before .entry .ensures) ∙ c .enum-told2 .given .1)))

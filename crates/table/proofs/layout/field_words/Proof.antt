@@ -6,13 +6,6 @@ pub field-words-spec : {M : Type 1} → statement M
 field-words-spec =
     tie.close
     (tie.spec
-    (λ c κs. search needs)
-    (λ c κs. search needs)
-    (λ c κs. search needs)
-    (λ c κs. search needs)
-    (λ c κs. search needs)
-    (λ c. search needs)
-    (λ c. search needs)
-    (λ c. search needs)
-    (λ c. search needs)
+    (λ c κs. search needs) (λ c κs. search needs) (λ c κs. search needs) (λ c κs. search needs) (λ c κs. search needs)
+    (λ c. search needs) (λ c. search needs) (λ c. search needs) (λ c. search needs)
     (λ c. simp (c .before .before .before .before .bit-of .ensures .0, c .before .before .before .before .before .bits-of2 .ensures .0, c .before .before .before .before .before .before .bits-of .ensures .0, c .before .before .before .before .before .before .before .from-size .ensures, c .before .before .before .before .before .before .before .before .window-no .ensures .0)))

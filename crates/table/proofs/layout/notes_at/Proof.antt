@@ -6,7 +6,5 @@ pub notes-at-spec : {M : Type 1} → statement M
 notes-at-spec =
     tie.close
     (tie.spec
-    (λ c. search needs)
-    (λ c κs. search needs)
-    (λ c. search needs)
+    (λ c. search needs) (λ c κs. search needs) (λ c. search needs)
     (λ c. simp (c .events-in .ensures)))

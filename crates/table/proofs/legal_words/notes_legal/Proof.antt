@@ -7,9 +7,5 @@ pub notes-legal-spec : {M : Type 1} → statement M
 notes-legal-spec =
     tie.close
     (tie.spec
-    (λ c. search needs)
-    (λ c κs. search needs)
-    (λ c. search needs)
-    (λ c κs. search needs)
-    (λ c. search needs)
+    (λ c. search needs) (λ c κs. search needs) (λ c. search needs) (λ c κs. search needs) (λ c. search needs)
     (λ c. simp (marked, c .limit-in .ensures, c .before .within-bits .ensures)))

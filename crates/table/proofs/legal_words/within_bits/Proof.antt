@@ -6,6 +6,5 @@ pub within-bits-spec : {M : Type 1} → statement M
 within-bits-spec =
     tie.close
     (tie.spec
-    (λ c κs. search needs)
-    (λ c κs. search needs)
+    (λ c κs. search needs) (λ c κs. search needs)
     (λ c. simp (c .bits-of .ensures .0, c .before .events-in .ensures)))

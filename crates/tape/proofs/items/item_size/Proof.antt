@@ -9,7 +9,5 @@ pub item-size-spec : {M : Type 1} → statement M
 item-size-spec =
     tie.close
     (tie.spec
-    (λ c. search needs)
-    (λ c. search needs)
-    (λ c. search needs)
+    (λ c. search needs) (λ c. search needs) (λ c. search needs)
     (λ c. sym (size-none (c .before .args .kind) (omega arith))))

@@ -9,10 +9,7 @@ next-item-spec =
     (tie.spec
     (λ c κs. search needs)
     (λ c. let i = c .before in none-item (i .before .before .args .left .now) _ _ (i .if1 .taken) (c .next-none .ensures))
-    (λ c. search needs)
-    (λ c κs. search needs)
-    (λ c. search needs)
-    (λ c κs. search needs)
+    (λ c. search needs) (λ c κs. search needs) (λ c. search needs) (λ c κs. search needs)
     (λ c.
     let t = c .before in
     let i = t .before .before .before in

@@ -9,13 +9,11 @@ pub play-item-spec : {M : Type 1} → statement M
 play-item-spec =
     tie.close
     (tie.spec
-    (λ c. search needs)
-    (λ c. search needs)
+    (λ c. search needs) (λ c. search needs)
     (λ c. let s = c .before .before .before .before .before in omega (arith, size-command (s .args .kind) (omega arith) (s .pre .0), s .pre .1))
     (λ c. let s = c .before .before .before .before .before .before in omega (arith, size-command (s .args .kind) (omega arith) (s .pre .0), s .pre .1))
     (λ c. let s = c .before .before .before .before .before .before in omega (arith, size-command (s .args .kind) (omega arith) (s .pre .0), s .pre .1))
-    (λ c. search needs)
-    (λ c κs. search needs)
+    (λ c. search needs) (λ c κs. search needs)
     (λ c κs. let s = c .before .before .before .before .before .before in omega (arith, size-tick (s .args .kind) (c .before .before .if2 .taken), s .pre .1))
     (λ c κs. search needs)
     (λ c κs. let s = c .before .before .before .before .before .before in let z = size-media (s .args .kind) (omega arith) (s .pre .0) in (omega (arith, z .0, s .pre .1), λ l. omega (arith, z .1 l, s .pre .1)))

@@ -7,11 +7,6 @@ pub play-tick-spec : {M : Type 1} → statement M
 play-tick-spec =
     tie.close
     (tie.spec
-    (λ c. search needs)
-    (λ c κs. search needs)
-    (λ c. search needs)
-    (λ c. search needs)
-    (λ c. search needs)
-    (λ c κs. search needs)
-    (λ c. search needs)
+    (λ c. search needs) (λ c κs. search needs) (λ c. search needs) (λ c. search needs) (λ c. search needs)
+    (λ c κs. search needs) (λ c. search needs)
     (λ c. played-answer _ _ _ _ _ _ _ _ _ (c .before .before .before .before .before .before .before .ticks .ensures) (c .item-line .ensures)))

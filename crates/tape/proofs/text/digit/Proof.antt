@@ -8,8 +8,6 @@ pub digit-spec : {M : Type 1} → statement M
 digit-spec =
     tie.close
     (tie.spec
-    (λ c. search needs)
-    (λ c. search needs)
-    (λ c. search needs)
+    (λ c. search needs) (λ c. search needs) (λ c. search needs)
     (λ c. let d = c .before .args .d in rw (lt-ltb d 10 (omega arith)))
     (λ c. let d = c .before .args .d in rw (le-ltb d 10 (omega arith))))

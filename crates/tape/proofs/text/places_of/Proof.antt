@@ -16,7 +16,6 @@ places-of-spec =
     Inv-loop
     μ-loop
     (λ c. counted-start _ (c .fits .n .fits))
-    (λ c. search needs)
-    (λ c. search needs)
+    (λ c. search needs) (λ c. search needs)
     (λ c. counted-turn _ _ _ (c .before .loop .inv) (search needs))
     (λ c. counted-end _ _ _ (c .before .loop .inv) (search needs)))

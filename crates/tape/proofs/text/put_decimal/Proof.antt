@@ -8,10 +8,7 @@ pub put-decimal-spec : {M : Type 1} → statement M
 put-decimal-spec =
     tie.close
     (tie.spec
-    (λ c κs. search needs)
-    (λ c κs. search needs)
-    (λ c. search needs)
-    (λ c. search needs)
+    (λ c κs. search needs) (λ c κs. search needs) (λ c. search needs) (λ c. search needs)
     (λ c.
     let p = c .before .before .before .before .places-of .ensures in
     (put-places _ _ 10 _ _ _ _ (c .before .before .put-digits .ensures) (p .0), omega (arith, p .1))))

@@ -23,15 +23,10 @@ put-text-spec =
     Inv-loop
     μ-loop
     (λ c. (search needs, search needs, rw add-zero))
-    (λ c. search needs)
-    (λ c. search needs)
-    (λ c. search needs)
-    (λ c. search needs)
-    (λ c. search needs)
+    (λ c. search needs) (λ c. search needs) (λ c. search needs) (λ c. search needs) (λ c. search needs)
     (λ c.
     let l = c .before .before .loop in
     let s = c .before .before .before in
     (search needs, search needs, text-turn (l .out) (s .args .text .now) (s .args .at) (l .i) (search needs) ∙ l .inv .2))
-    (λ c. search needs)
-    (λ c. search needs)
+    (λ c. search needs) (λ c. search needs)
     (λ c. text-end _ _ _ _ _ (omega arith) (c .before .loop .inv .2)))
