@@ -1,39 +1,49 @@
 -- The table of commands read by opcode, as the code reads it: which kind a command is, and whether it is listed.
-use mathlib.Core.Path.{_≡_, refl, sym, subst}
+use mathlib.Core.Path.{_≡_, refl, sym, subst, _∙_}
 use mathlib.Core.Bool.{Bool, true, false, _&&_, _||_, or-false}
+use mathlib.Core.List.{[], _∷_}
 use Prim.Native.Nat.{ℕ}
-use borrow.Author.Tests.{eqb-true, ne-eqb}
+use borrow.Author.Tests.{eqb-true, eq-eqb, ne-eqb}
 use lib.Dec.{eqb}
-use Rattle.octets.specs.Lists.{anyOf}
+use Rattle.octets.specs.Choice.{if_then_else_}
+use Rattle.octets.specs.Lists.{anyOf, keep}
 use Rattle.commands.specs.declared.Kind.{Kind}
 use Rattle.commands.specs.declared.Kind.the-variants.{SetConfig, SetWindow, GetConfig, GetWindow, ReadLatency, ReadAggregate, Identify}
 use Rattle.commands.specs.Shapes.{logOpcode, identifyOpcode, setOpcode, getOpcode, configFid, latencyPageNo, shapeOf, kinds, hasOpcode, hasChoice, kindBy}
 
--- ---- which kind it is
+-- ---- which kind it is: of an opcode with two kinds the first where it has the first one's FID or page, and else the second
+
+abbrev TwoOf : ℕ → Kind → Kind → Type 0
+TwoOf code k l = keep (hasOpcode code) kinds ≡ k ∷ l ∷ []
+
+module _ (code : ℕ) (k l : Kind) (two : TwoOf code k l) (op n : ℕ) (e : op ≡ code) where
+  kind-is : kindBy op n ≡ if hasChoice n k then k else l
+  unfolding kindBy
+  kind-is = rw (e, two)
+
+  first-kind : n ≡ shapeOf k .choice → kindBy op n ≡ k
+  first-kind f = kind-is ∙ rw (eq-eqb n (shapeOf k .choice) f)
+
+  second-kind : (n ≡ shapeOf k .choice → ⊥) → kindBy op n ≡ l
+  second-kind f = kind-is ∙ rw (ne-eqb n (shapeOf k .choice) f)
 
 pub set-config : (op n : ℕ) → op ≡ setOpcode → n ≡ configFid → kindBy op n ≡ SetConfig
-unfolding kindBy
-set-config op n e f = rw (e, f)
+set-config = first-kind setOpcode SetConfig SetWindow refl
 
 pub set-window : (op n : ℕ) → op ≡ setOpcode → (n ≡ configFid → ⊥) → kindBy op n ≡ SetWindow
-unfolding kindBy
-set-window op n e f = rw (e, ne-eqb n configFid f)
+set-window = second-kind setOpcode SetConfig SetWindow refl
 
 pub get-config : (op n : ℕ) → op ≡ getOpcode → n ≡ configFid → kindBy op n ≡ GetConfig
-unfolding kindBy
-get-config op n e f = rw (e, f)
+get-config = first-kind getOpcode GetConfig GetWindow refl
 
 pub get-window : (op n : ℕ) → op ≡ getOpcode → (n ≡ configFid → ⊥) → kindBy op n ≡ GetWindow
-unfolding kindBy
-get-window op n e f = rw (e, ne-eqb n configFid f)
+get-window = second-kind getOpcode GetConfig GetWindow refl
 
 pub read-latency : (op n : ℕ) → op ≡ logOpcode → n ≡ latencyPageNo → kindBy op n ≡ ReadLatency
-unfolding kindBy
-read-latency op n e f = rw (e, f)
+read-latency = first-kind logOpcode ReadLatency ReadAggregate refl
 
 pub read-aggregate : (op n : ℕ) → op ≡ logOpcode → (n ≡ latencyPageNo → ⊥) → kindBy op n ≡ ReadAggregate
-unfolding kindBy
-read-aggregate op n e f = rw (e, ne-eqb n latencyPageNo f)
+read-aggregate = second-kind logOpcode ReadLatency ReadAggregate refl
 
 identify-by : (op n : ℕ) (b : Bool) → eqb op setOpcode ≡ false → eqb op getOpcode ≡ false → eqb op logOpcode ≡ false → eqb op identifyOpcode ≡ b → kindBy op n ≡ Identify
 unfolding kindBy

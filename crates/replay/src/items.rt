@@ -14,7 +14,7 @@ use table::MAX_SETS;
 use table::layout::HEADER;
 use table::layout::ROW;
 use tape::Next;
-use tape::items::body_size;
+use tape::items::item_size;
 use tape::items::next_item;
 use tape::items::play;
 use tape::lines::LINE;
@@ -78,7 +78,7 @@ fn one_item(
     let next = next_item(feed::left(buf, p), p.last);
     match next {
         Next::Whole => {
-            let size = body_size(kind_at(buf, p.at));
+            let size = item_size(kind_at(buf, p.at));
             let n = play_at(table, line, buf, p.at, size);
             let now = emit(out, used, line, n);
             made(sets::one_more(items), feed::past(p, size), now, true)
