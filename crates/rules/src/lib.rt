@@ -4,7 +4,9 @@ pub mod changes;
 ghost use mathlib.Core.Path.{_≡_};
 ghost use Prim.Native.Nat.{_+_};
 ghost use Rattle.record.specs.declared.Window.{Window};
+ghost use Rattle.rules.specs.declared.Cause.{Cause};
 ghost use Rattle.record.specs.Record.{afresh, effectOf};
+ghost use Rattle.rules.specs.Changes.{movedBy};
 ghost use Rattle.rules.specs.Rules.{still, onlyInD, causeOfMode, configure, isEarly, entered, selecting, isOver, causeOver, carried, leaving, charge, readEvent, writeEvent, excursionEvent, mediaRule, recovery, tick, clearingRead};
 use crate::changes::moved;
 use record::Attributes;
@@ -231,11 +233,22 @@ pub fn write_event(a: Attributes, s: State, k: u16) -> Effect
     charge_in_d(a, s, Quantity::Writes, k as u64)
 }
 
+// The window after an excursion. That each window stands in the code lets the compiler read the table's entries ahead.
+fn after_excursion(w: Window) -> Window
+    ensures { λ r. ⌜ r ≡ movedBy w Cause.Excursion ⌝ }
+{
+    match w {
+        Window::Off => moved(Window::Off, Cause::Excursion),
+        Window::D => moved(Window::D, Cause::Excursion),
+        Window::N => moved(Window::N, Cause::Excursion),
+    }
+}
+
 pub fn excursion_event(s: State) -> Effect
     ensures { λ r. ⌜ r ≡ excursionEvent s ⌝ }
 {
     let w = s.window;
-    let next = moved(w, Cause::Excursion);
+    let next = after_excursion(w);
     if same_window(next, w) {
         keep_still(s)
     } else {

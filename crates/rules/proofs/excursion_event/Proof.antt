@@ -11,10 +11,10 @@ excursion-event-spec =
     (λ c κs. search needs)
     (λ c.
     let t = c .before in
-    let e = rw (t .before .before .moved .ensures) at (sym (t .before .same-window .ensures) ∙ t .if1 .taken) in
+    let e = rw (t .before .before .after-excursion .ensures) at (sym (t .before .same-window .ensures) ∙ t .if1 .taken) in
     simp (c .keep-still .ensures, e))
     (λ c.
     let t = c .before .before .before in
-    let m = t .before .before .moved .ensures in
+    let m = t .before .before .after-excursion .ensures in
     let e = rw m at (sym (t .before .same-window .ensures) ∙ t .if1 .left) in
     simp (c .effect-of .ensures, c .before .an-excursion .ensures, c .before .before .started .ensures, e, m)))
