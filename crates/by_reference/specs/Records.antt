@@ -5,7 +5,7 @@ use Prim.Native.Nat.{ℕ}
 use Rattle.octets.specs.Choice.{if_then_else_}
 use Rattle.replies.specs.Numbers.{badTable}
 use Rattle.record.specs.declared.Record.{Record}
-use Rattle.record.specs.Record.{idOf}
+use Rattle.record.specs.Parts.{idOf}
 use Rattle.record.specs.Legal.{legalRecord}
 use Rattle.rules.specs.declared.Media.{Media}
 use Rattle.steps.specs.Items.{itemOf}

@@ -9,7 +9,7 @@ use borrow.Author.Tests.{lt-ltb, le-ltb}
 use lib.ListN.{length, length-map}
 use Rattle.record.specs.declared.Slot.{Slot}
 use Rattle.record.specs.declared.Record.{Record}
-use Rattle.record.specs.Record.{idOf}
+use Rattle.record.specs.Parts.{idOf}
 use Rattle.record.specs.Event.{settled}
 use Rattle.record.specs.Legal.{dayMs}
 use Rattle.replies.specs.Numbers.{badTable, unknownSet, tickTooLong}

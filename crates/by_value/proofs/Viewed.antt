@@ -17,7 +17,7 @@ use Rattle.table.proofs.Written.{written-own}
 use Rattle.pages.specs.Identify.{identifySize, identifyFields, shown, identifyPage}
 use Rattle.record.specs.declared.Attributes.{Attributes}
 use Rattle.record.specs.declared.Record.{Record}
-use Rattle.record.specs.Record.{idOf}
+use Rattle.record.specs.Parts.{idOf}
 use Rattle.commands.specs.declared.Command.{Command}
 use Rattle.commands.specs.declared.Kind.{Kind}
 use Rattle.steps.specs.Items.{Card, Item, command, Nobody, The}

@@ -8,7 +8,7 @@ use lib.ListN.{length, take, replicate, length-map}
 use lib.Seq.{sets}
 use Rattle.octets.proofs.Runs.{part-same}
 use Rattle.record.specs.declared.Attributes.{Attributes}
-use Rattle.record.specs.Record.{idOf}
+use Rattle.record.specs.Parts.{idOf}
 use Rattle.table.specs.Layout.{recordOf}
 use Rattle.table.specs.Table.{count, row, recordsOf, Legal, listedMarks, listedWord, maxSets}
 use Rattle.table.proofs.LegalTables.{length-records}

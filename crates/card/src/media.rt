@@ -76,7 +76,7 @@ pub fn ticks(table: &mut [u64], t: u32, answer: &mut [u8]) -> Reply
     ensures { λ r. ⌜ Answered (now (table .entry)) (Item.tick t (length (now (answer .entry)))) (now (answer .entry)) r (now (table .exit)) (now (answer .exit)) ⌝ }
 {
     if legal(table) {
-        if DAY_MS < (t as u64) {
+        if DAY_MS < t {
             return refuse(TICK_TOO_LONG);
         }
         let n = table::count_of(table);

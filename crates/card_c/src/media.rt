@@ -127,7 +127,7 @@ pub(crate) fn ticks(region: &mut [u8], t: u32, answer: &[u8]) -> Reply
     ensures { λ x. ⌜ AnswerAtC (now (region .entry)) (Item.tick t (length (now (answer .entry)))) (now (answer .entry)) x (now (region .exit)) (now (answer .entry)) ⌝ }
 {
     if region::legal(region) {
-        if DAY_MS < (t as u64) {
+        if DAY_MS < t {
             return refuse(TICK_TOO_LONG);
         }
         let n = region::count_of(region);

@@ -11,7 +11,7 @@ use Rattle.record.specs.declared.Config.{Config}
 use Rattle.record.specs.declared.State.{State}
 use Rattle.record.specs.declared.Record.{Record}
 use Rattle.record.specs.declared.Effect.{Effect}
-use Rattle.record.specs.Quantities.{limit, spent, threshold, enables, need}
+use Rattle.record.specs.Quantities.{limit, spentOf, threshold, enables, need}
 use Rattle.record.specs.Windows.{byWindow}
 
 -- ---- estimates
@@ -25,8 +25,8 @@ abbrev pub estimate : Quantity → Attributes → State → ℕ
 estimate q a s =
     byWindow (s .window)
     0
-    (leftOf q a (spent q s))
-    (if eqb (s .«n_time») (need a) then limit q a else 0)
+    (leftOf q a (spentOf q (s .spent)))
+    (if eqb (s .recovery .time) (need a) then limit q a else 0)
 
 -- ---- events
 

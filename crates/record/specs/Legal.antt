@@ -6,6 +6,8 @@ use mathlib.Core.Bool.{Bool, true, not, _&&_, _||_}
 use lib.Dec.{leb, ltb, eqb}
 use Rattle.record.specs.declared.Capacity.{Capacity}
 use Rattle.record.specs.declared.Attributes.{Attributes}
+use Rattle.record.specs.declared.Spent.{Spent}
+use Rattle.record.specs.declared.Recovery.{Recovery}
 use Rattle.record.specs.declared.State.{State}
 use Rattle.record.specs.declared.Notes.{Notes}
 use Rattle.record.specs.declared.Record.{Record}
@@ -52,21 +54,28 @@ legalAttributes a =
     && inRange dayMs (a .«minimum_low»)
     && leb (a .«minimum_low») (a .«minimum_high»)
 
--- "all zero outside D"
-abbrev pub noneSpent : State → Bool
-noneSpent s = eqb (s .reads) 0 && eqb (s .writes) 0 && eqb (s .time) 0
-
 -- "reads and writes at most their typicals and time below maximum"
-abbrev pub withinLimits : Attributes → State → Bool
-withinLimits a s = leb (s .reads) (a .«reads_typical») && leb (s .writes) (a .«writes_typical») && ltb (s .time) (a .«time_maximum»)
+abbrev pub withinLimits : Attributes → Spent → Bool
+withinLimits a p = leb (p .reads) (a .«reads_typical») && leb (p .writes) (a .«writes_typical») && ltb (p .time) (a .«time_maximum»)
 
--- "N time at most high and zero outside N"
+-- "all zero outside D"
+abbrev pub noneSpent : Spent → Bool
+noneSpent p = eqb (p .reads) 0 && eqb (p .writes) 0 && eqb (p .time) 0
+
+-- "N time at most high"
+abbrev pub withinNeed : Attributes → Recovery → Bool
+withinNeed a r = leb (r .time) (need a)
+
+-- "and zero outside N"
+abbrev pub noneRecovered : Recovery → Bool
+noneRecovered r = eqb (r .time) 0
+
 abbrev pub legalState : Attributes → State → Bool
 legalState a s =
     byWindow (s .window)
-    (noneSpent s && eqb (s .«n_time») 0)
-    (withinLimits a s && eqb (s .«n_time») 0)
-    (noneSpent s && leb (s .«n_time») (need a))
+    (noneSpent (s .spent) && noneRecovered (s .recovery))
+    (withinLimits a (s .spent) && noneRecovered (s .recovery))
+    (noneSpent (s .spent) && withinNeed a (s .recovery))
 
 -- "listed only if some event bit is set"
 abbrev pub legalNotes : Notes → Bool

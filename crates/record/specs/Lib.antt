@@ -1,4 +1,4 @@
-pub mod Record
+pub mod Parts
 pub mod Quantities
 pub mod Windows
 pub mod Event

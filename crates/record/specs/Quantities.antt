@@ -6,8 +6,9 @@ use Rattle.record.specs.declared.Quantity.{Quantity}
 use Rattle.record.specs.declared.Quantity.the-variants.{Reads, Writes, Time}
 use Rattle.record.specs.declared.Events.{Events}
 use Rattle.record.specs.declared.Thresholds.{Thresholds}
+use Rattle.record.specs.declared.Spent.{Spent}
 use Rattle.record.specs.declared.State.{State}
-use Rattle.record.specs.Record.{stateOf}
+use Rattle.record.specs.Parts.{spends, havingSpent}
 
 -- "reads typical and writes typical", "time maximum": how much of a quantity D allows
 abbrev pub limit : Quantity → Attributes → ℕ
@@ -16,10 +17,10 @@ limit Writes a = a .«writes_typical»
 limit Time a = a .«time_maximum»
 
 -- "reads, writes and time in the deterministic window (D)"
-abbrev pub spent : Quantity → State → ℕ
-spent Reads s = s .reads
-spent Writes s = s .writes
-spent Time s = s .time
+abbrev pub spentOf : Quantity → Spent → ℕ
+spentOf Reads p = p .reads
+spentOf Writes p = p .writes
+spentOf Time p = p .time
 
 -- "three 64-bit thresholds"
 abbrev pub threshold : Quantity → Thresholds → ℕ
@@ -38,7 +39,10 @@ abbrev pub need : Attributes → ℕ
 need a = a .«minimum_high»
 
 -- n of a quantity spent
+abbrev pub spendsOf : Quantity → ℕ → Spent → Spent
+spendsOf Reads n p = spends n (p .writes) (p .time)
+spendsOf Writes n p = spends (p .reads) n (p .time)
+spendsOf Time n p = spends (p .reads) (p .writes) n
+
 abbrev pub spending : Quantity → ℕ → State → State
-spending Reads n s = stateOf (s .window) (s .config) n (s .writes) (s .time) (s .«n_time»)
-spending Writes n s = stateOf (s .window) (s .config) (s .reads) n (s .time) (s .«n_time»)
-spending Time n s = stateOf (s .window) (s .config) (s .reads) (s .writes) n (s .«n_time»)
+spending q n s = havingSpent (spendsOf q n (s .spent)) s

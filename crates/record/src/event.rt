@@ -32,14 +32,15 @@ const EXCURSION: u64 = 0x8000;
 pub fn estimate_of(a: Attributes, s: State, q: Quantity) -> u64
     ensures { λ r. ⌜ r ≡ estimate q a s ⌝ }
 {
-    let most = limit_of(a, q);
-    let count = spent_of(s, q);
+    let most = limit_of(a, q) as u64;
+    let p = s.spent;
+    let count = spent_of(p, q) as u64;
     let need = need_of(a);
     let w = s.window;
     match w {
         Window::Off => 0,
         Window::D => floored(most, count),
-        Window::N => { if s.n_time == need { most } else { 0 } }
+        Window::N => { if s.recovery.time == need { most } else { 0 } }
     }
 }
 
@@ -129,7 +130,8 @@ fn starts_below(a: Attributes, c: Config, q: Quantity) -> bool
     let thresholds = c.thresholds;
     let on = enabled_by(enabled, q);
     let least = threshold_of(thresholds, q);
-    on & (limit_of(a, q) < least)
+    let most = limit_of(a, q) as u64;
+    on & (most < least)
 }
 
 pub fn entering_d(a: Attributes, c: Config) -> Events

@@ -1,25 +1,27 @@
 // Legality of one record, as a test.
 ghost use mathlib.Core.Path.{_≡_};
-ghost use Rattle.record.specs.Legal.{inRange, notAbove, legalAttributes, noneSpent, withinLimits, legalState, legalNotes, legalRecord};
+ghost use Rattle.record.specs.Legal.{inRange, notAbove, legalAttributes, withinLimits, noneSpent, withinNeed, noneRecovered, legalState, legalNotes, legalRecord};
 use crate::Attributes;
 use crate::Capacity;
 use crate::Notes;
 use crate::Record;
+use crate::Recovery;
+use crate::Spent;
 use crate::State;
 use crate::Window;
 use crate::event::some_event;
 use crate::quantities::need_of;
 
-pub const NUMBER_MAXIMUM: u64 = 65535;
+pub const NUMBER_MAXIMUM: u32 = 65535;
 
 // A field of 4 bytes holds no more: the type says it again.
 const FOUR_BYTES_MAXIMUM: u32 = 4294967295;
 
-pub const TYPICAL_MAXIMUM: u64 = 4294967295;
+pub const TYPICAL_MAXIMUM: u32 = 4294967295;
 
-pub const DAY_MS: u64 = 86400000;
+pub const DAY_MS: u32 = 86400000;
 
-fn in_range(most: u64, x: u64) -> bool
+fn in_range(most: u32, x: u32) -> bool
     ensures { λ r. ⌜ r ≡ inRange most x ⌝ }
 {
     (1 <= x) & (x <= most)
@@ -36,8 +38,8 @@ pub fn attributes_legal(a: Attributes) -> bool
 {
     let total = a.total;
     let unallocated = a.unallocated;
-    let id = in_range(NUMBER_MAXIMUM, a.id.0 as u64);
-    let group = in_range(NUMBER_MAXIMUM, a.group.0 as u64);
+    let id = in_range(NUMBER_MAXIMUM, a.id.0 as u32);
+    let group = in_range(NUMBER_MAXIMUM, a.group.0 as u32);
     let random = a.random_read_typical <= FOUR_BYTES_MAXIMUM;
     let optimal = a.optimal_write_size <= FOUR_BYTES_MAXIMUM;
     let capacity = not_above(unallocated, total);
@@ -50,29 +52,44 @@ pub fn attributes_legal(a: Attributes) -> bool
     sizes & reads & writes & time & high & low & (a.minimum_low <= a.minimum_high)
 }
 
-fn none_spent(s: State) -> bool
-    ensures { λ r. ⌜ r ≡ noneSpent s ⌝ }
+fn within_limits(a: Attributes, p: Spent) -> bool
+    ensures { λ r. ⌜ r ≡ withinLimits a p ⌝ }
 {
-    (s.reads == 0) & (s.writes == 0) & (s.time == 0)
+    (p.reads <= a.reads_typical) & (p.writes <= a.writes_typical) & (p.time < a.time_maximum)
 }
 
-fn within_limits(a: Attributes, s: State) -> bool
-    ensures { λ r. ⌜ r ≡ withinLimits a s ⌝ }
+fn none_spent(p: Spent) -> bool
+    ensures { λ r. ⌜ r ≡ noneSpent p ⌝ }
 {
-    (s.reads <= a.reads_typical) & (s.writes <= a.writes_typical) & (s.time < a.time_maximum)
+    (p.reads == 0) & (p.writes == 0) & (p.time == 0)
+}
+
+fn within_need(a: Attributes, r: Recovery) -> bool
+    ensures { λ b. ⌜ b ≡ withinNeed a r ⌝ }
+{
+    r.time <= need_of(a)
+}
+
+fn none_recovered(r: Recovery) -> bool
+    ensures { λ b. ⌜ b ≡ noneRecovered r ⌝ }
+{
+    r.time == 0
 }
 
 pub fn state_legal(a: Attributes, s: State) -> bool
     ensures { λ r. ⌜ r ≡ legalState a s ⌝ }
 {
-    let none = none_spent(s);
-    let within = within_limits(a, s);
-    let need = need_of(a);
+    let p = s.spent;
+    let r = s.recovery;
+    let within = within_limits(a, p);
+    let none = none_spent(p);
+    let recovering = within_need(a, r);
+    let still = none_recovered(r);
     let w = s.window;
     match w {
-        Window::Off => none & (s.n_time == 0),
-        Window::D => within & (s.n_time == 0),
-        Window::N => none & (s.n_time <= need),
+        Window::Off => none & still,
+        Window::D => within & still,
+        Window::N => none & recovering,
     }
 }
 

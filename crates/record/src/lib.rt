@@ -2,6 +2,7 @@
 // What an item does to a set is an effect; `event::settle` alone writes events and the listed mark.
 pub mod event;
 pub mod legal;
+pub mod parts;
 pub mod quantities;
 pub mod windows;
 
@@ -18,7 +19,8 @@ pub struct Capacity {
     pub high: u64,
 }
 
-// Static: no item changes it. Times are in milliseconds.
+// Static: no item changes it. Times are in milliseconds. Typicals, times and counts are u32, as 01's ranges are, so that no sum of two of
+// them and no product wraps in 64 bits, whatever the record.
 pub struct Attributes {
     pub id: SetId,
     pub group: Group,
@@ -26,11 +28,11 @@ pub struct Attributes {
     pub optimal_write_size: u32,
     pub total: Capacity,
     pub unallocated: Capacity,
-    pub reads_typical: u64,
-    pub writes_typical: u64,
-    pub time_maximum: u64,
-    pub minimum_high: u64,
-    pub minimum_low: u64,
+    pub reads_typical: u32,
+    pub writes_typical: u32,
+    pub time_maximum: u32,
+    pub minimum_high: u32,
+    pub minimum_low: u32,
 }
 
 // Off is the mode off: a set that is on is in D, the deterministic window, or in N, the non-deterministic one.
@@ -68,14 +70,24 @@ pub struct Config {
     pub thresholds: Thresholds,
 }
 
-// What the rules read and change: reads, writes and time in D, and the time in N.
+// What is spent in D. All zero outside D.
+pub struct Spent {
+    pub reads: u32,
+    pub writes: u32,
+    pub time: u32,
+}
+
+// What is recovered in N: the time in it. Zero outside N.
+pub struct Recovery {
+    pub time: u32,
+}
+
+// What the rules read and change.
 pub struct State {
     pub window: Window,
     pub config: Config,
-    pub reads: u64,
-    pub writes: u64,
-    pub time: u64,
-    pub n_time: u64,
+    pub spent: Spent,
+    pub recovery: Recovery,
 }
 
 // What the host is told. No rule reads it.

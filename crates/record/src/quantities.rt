@@ -1,16 +1,16 @@
 // The limit, count, threshold and enable bit of each quantity.
 ghost use mathlib.Core.Path.{_≡_};
 ghost use Prim.Native.Nat.{_+_, _-_, min};
-ghost use lib.Dec.{ltb, leb};
-ghost use Rattle.record.specs.Quantities.{limit, spent, threshold, enables, spending, need};
+ghost use Rattle.record.specs.Quantities.{limit, spentOf, threshold, enables, spendsOf, spending, need};
 use crate::Attributes;
 use crate::Config;
 use crate::Events;
 use crate::Quantity;
+use crate::Spent;
 use crate::State;
 use crate::Thresholds;
 
-pub fn limit_of(a: Attributes, q: Quantity) -> u64
+pub fn limit_of(a: Attributes, q: Quantity) -> u32
     ensures { λ r. ⌜ r ≡ limit q a ⌝ }
 {
     match q {
@@ -20,13 +20,13 @@ pub fn limit_of(a: Attributes, q: Quantity) -> u64
     }
 }
 
-pub fn spent_of(s: State, q: Quantity) -> u64
-    ensures { λ r. ⌜ r ≡ spent q s ⌝ }
+pub fn spent_of(p: Spent, q: Quantity) -> u32
+    ensures { λ r. ⌜ r ≡ spentOf q p ⌝ }
 {
     match q {
-        Quantity::Reads => s.reads,
-        Quantity::Writes => s.writes,
-        Quantity::Time => s.time,
+        Quantity::Reads => p.reads,
+        Quantity::Writes => p.writes,
+        Quantity::Time => p.time,
     }
 }
 
@@ -50,21 +50,31 @@ pub fn enabled_by(e: Events, q: Quantity) -> bool
     }
 }
 
-// The state with n of the quantity spent.
-pub fn with_spent(s: State, q: Quantity, n: u64) -> State
+// n of the quantity spent.
+fn spend(p: Spent, q: Quantity, n: u32) -> Spent
+    ensures { λ r. ⌜ r ≡ spendsOf q n p ⌝ }
+{
+    let mut r = p;
+    match q {
+        Quantity::Reads => r.reads = n,
+        Quantity::Writes => r.writes = n,
+        Quantity::Time => r.time = n,
+    }
+    r
+}
+
+pub fn with_spent(s: State, q: Quantity, n: u32) -> State
     ensures { λ r. ⌜ r ≡ spending q n s ⌝ }
 {
-    let mut t = s;
-    match q {
-        Quantity::Reads => t.reads = n,
-        Quantity::Writes => t.writes = n,
-        Quantity::Time => t.time = n,
-    }
-    t
+    let p = s.spent;
+    let new = spend(p, q, n);
+    let mut r = s;
+    r.spent = new;
+    r
 }
 
 // The one place that says how long N must last before D may be selected.
-pub fn need_of(a: Attributes) -> u64
+pub fn need_of(a: Attributes) -> u32
     ensures { λ r. ⌜ r ≡ need a ⌝ }
 {
     a.minimum_high
@@ -76,27 +86,14 @@ pub fn floored(a: u64, b: u64) -> u64
     if b < a { a - b } else { 0 }
 }
 
-// a + b, stopped at `most`: no sum is made that could wrap.
-pub fn capped(a: u64, b: u64, most: u64) -> u64
+// a + b, stopped at `most`.
+pub fn capped(a: u32, b: u64, most: u32) -> u32
     ensures { λ r. ⌜ r ≡ min (a + b) most ⌝ }
 {
     if a < most {
-        if b < most - a {
-            return a + b;
+        if b < ((most - a) as u64) {
+            return ((a as u64) + b) as u32;
         }
     }
     most
-}
-
-// Whether count + k is past the limit, and whether it is at or past it, by differences.
-pub fn passes(count: u64, k: u64, most: u64) -> bool
-    ensures { λ r. ⌜ r ≡ ltb most (count + k) ⌝ }
-{
-    if most < count { true } else { most - count < k }
-}
-
-pub fn reaches(count: u64, k: u64, most: u64) -> bool
-    ensures { λ r. ⌜ r ≡ leb most (count + k) ⌝ }
-{
-    floored(most, count) <= k
 }

@@ -6,7 +6,7 @@ ghost use mathlib.Core.List.{map};
 ghost use lib.ListN.{length, getD, replicate};
 ghost use lib.Seq.{sets};
 ghost use Rattle.octets.specs.Words.{wordSize};
-ghost use Rattle.record.specs.Record.{idOf};
+ghost use Rattle.record.specs.Parts.{idOf};
 ghost use Rattle.table.specs.Card.{headerWords};
 ghost use Rattle.table.specs.Table.{count, rowStart, row, rows, sized, legalRows, legalTable, Legal, recordsOf, findIn, enterIn, listedWord, maxSets};
 ghost use Rattle.region.specs.Region.{tableIn, recordAt, withRecord, LegalAt, Moved, Silent};

@@ -16,7 +16,7 @@ use Rattle.record.specs.declared.Quantity.the-variants.{Reads, Writes, Time}
 use Rattle.record.specs.declared.Config.{Config}
 use Rattle.record.specs.declared.State.{State}
 use Rattle.record.specs.declared.Effect.{Effect}
-use Rattle.record.specs.Record.{afresh, recovering, configured, effectOf}
+use Rattle.record.specs.Parts.{afresh, recovering, configured, effectOf}
 use Rattle.record.specs.Quantities.{limit, spent, need, spending}
 use Rattle.record.specs.Windows.{byWindow, sameWindow}
 use Rattle.rules.specs.Changes.{movedBy}

@@ -5,7 +5,7 @@ ghost use mathlib.Core.Path.{_≡_};
 ghost use Prim.Native.Nat.{_+_};
 ghost use Rattle.record.specs.declared.Window.{Window};
 ghost use Rattle.rules.specs.declared.Cause.{Cause};
-ghost use Rattle.record.specs.Record.{afresh, effectOf};
+ghost use Rattle.record.specs.Parts.{afresh, effectOf};
 ghost use Rattle.rules.specs.Changes.{movedBy};
 ghost use Rattle.rules.specs.Rules.{still, onlyInD, causeOfMode, configure, isEarly, entered, selecting, isOver, causeOver, carried, leaving, charge, readEvent, writeEvent, excursionEvent, mediaRule, recovery, tick, clearingRead};
 use crate::changes::moved;

@@ -13,7 +13,7 @@ use Rattle.record.specs.declared.Attributes.{Attributes}
 use Rattle.record.specs.declared.Events.{Events}
 use Rattle.record.specs.declared.Config.{Config}
 use Rattle.record.specs.declared.Record.{Record}
-use Rattle.record.specs.Record.{stateOf}
+use Rattle.record.specs.Parts.{stateOf}
 use Rattle.record.specs.Event.{eventsOf, noEvents, bitsOf}
 use Rattle.pages.specs.Latency.{latencyPage}
 use Rattle.steps.specs.Items.{Card, Item, reads, excursion, tick, command}

@@ -8,7 +8,7 @@ use native.Mathlib.Nat.{mul-le-mul-left}
 use lib.Dec.{eqb, ltb}
 use borrow.Author.Tests.{ltb-false, le-ltb, eqb-true, eq-eqb}
 use Rattle.record.specs.declared.Record.{Record}
-use Rattle.record.specs.Record.{idOf}
+use Rattle.record.specs.Parts.{idOf}
 use Rattle.octets.specs.Lists.{first}
 use Rattle.steps.specs.Items.{Card, Item, All, Meaning, Nobody, Everybody, The}
 use Rattle.steps.specs.Meanings.{meaning}

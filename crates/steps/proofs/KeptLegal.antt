@@ -10,7 +10,7 @@ use lib.ListN.{length, length-map}
 use Rattle.record.specs.declared.Attributes.{Attributes}
 use Rattle.record.specs.declared.State.{State}
 use Rattle.record.specs.declared.Record.{Record}
-use Rattle.record.specs.Record.{idOf}
+use Rattle.record.specs.Parts.{idOf}
 use Rattle.record.specs.Legal.{legalAttributes, legalState, legalRecord, KeepsState}
 use Rattle.rules.specs.Rules as rules
 use Rattle.rules.proofs.Keeps.{keeps-record, read-event-keeps, write-event-keeps, excursion-keeps, tick-keeps, configure-keeps, selecting-keeps}

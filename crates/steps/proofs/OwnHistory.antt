@@ -11,7 +11,7 @@ use lib.Dec.{eqb}
 use lib.ListN.{length, length-map}
 use Rattle.octets.specs.Choice.{if_then_else_}
 use Rattle.record.specs.declared.Record.{Record}
-use Rattle.record.specs.Record.{idOf}
+use Rattle.record.specs.Parts.{idOf}
 use Rattle.replies.specs.Answers.{granted, refused}
 use Rattle.table.specs.Table.{legalSets, listedMarks}
 use Rattle.pages.specs.Aggregate.{picked}

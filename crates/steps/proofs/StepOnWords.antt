@@ -11,7 +11,7 @@ use borrow.Author.Tests.{eqb-true, eq-eqb, ne-eqb}
 use lib.Dec.{eqb}
 use lib.ListN.{length}
 use Rattle.record.specs.declared.Record.{Record}
-use Rattle.record.specs.Record.{idOf}
+use Rattle.record.specs.Parts.{idOf}
 use Rattle.record.specs.Event.{settled}
 use Rattle.replies.specs.Numbers.{badTable}
 use Rattle.replies.specs.Answers.{refused}

@@ -19,7 +19,7 @@ use Rattle.record.specs.declared.Quantity.the-variants.{Reads, Writes, Time}
 use Rattle.record.specs.declared.State.{State}
 use Rattle.record.specs.declared.Record.{Record}
 use Rattle.record.specs.declared.Effect.{Effect}
-use Rattle.record.specs.Record.{afresh, idOf}
+use Rattle.record.specs.Parts.{afresh, idOf}
 use Rattle.record.specs.Quantities.{limit, spent, spending}
 use Rattle.record.specs.Event.{bit}
 use Rattle.record.specs.Windows.{byWindow, windowNo, sameWindow}

@@ -11,7 +11,7 @@ use Rattle.record.specs.declared.Attributes.{Attributes}
 use Rattle.record.specs.declared.State.{State}
 use Rattle.record.specs.declared.Record.{Record}
 use Rattle.record.specs.declared.Effect.{Effect}
-use Rattle.record.specs.Record.{idOf}
+use Rattle.record.specs.Parts.{idOf}
 use Rattle.record.specs.Event.{settled}
 use Rattle.replies.specs.Numbers.{tooShort}
 use Rattle.replies.specs.Status.{line, firstOf}

@@ -9,7 +9,7 @@ use Rattle.record.specs.declared.Attributes.{Attributes}
 use Rattle.record.specs.declared.State.{State}
 use Rattle.record.specs.declared.Record.{Record}
 use Rattle.record.specs.declared.Effect.{Effect}
-use Rattle.record.specs.Record.{idOf}
+use Rattle.record.specs.Parts.{idOf}
 use Rattle.record.specs.Windows.{byWindow, windowNo}
 use Rattle.replies.specs.Answers.{Answer, granted}
 use Rattle.rules.specs.Rules as rules

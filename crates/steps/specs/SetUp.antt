@@ -10,7 +10,7 @@ use Rattle.record.specs.declared.Window.the-variants.{Off}
 use Rattle.record.specs.declared.Attributes.{Attributes}
 use Rattle.record.specs.declared.State.{State}
 use Rattle.record.specs.declared.Record.{Record}
-use Rattle.record.specs.Record.{stateOf}
+use Rattle.record.specs.Parts.{stateOf}
 use Rattle.record.specs.Event.{noEvents}
 use Rattle.record.specs.Legal.{inRange}
 use Rattle.replies.specs.Numbers.{tooShort, badSetUp}

@@ -17,7 +17,7 @@ use Rattle.table.specs.declared.Found.{Found}
 use Rattle.table.specs.declared.Found.the-variants.{At, Nothing}
 use Rattle.table.specs.declared.Entry.the-variants.{Bad, Unknown, Here}
 use Rattle.table.specs.Layout.{wordsOf, recordOf}
-use Rattle.record.specs.Record.{idOf}
+use Rattle.record.specs.Parts.{idOf}
 use Rattle.table.specs.Card.{layoutNumber, headerWords}
 use Rattle.table.specs.Table.{layout, count, rowStart, row, rows, recordsOf, legalRow, legalAfter, legalRows, legalSets, roomFor, sized, extentOf, legalTable, Legal, findIn, entryOf, enterIn, maxSets}
 use Rattle.table.proofs.Records.{Row, row-of, words-legal, record-back}

@@ -19,7 +19,7 @@ use Rattle.record.specs.declared.Record.{Record}
 use Rattle.record.specs.Windows.{byWindow, windowNo}
 use Rattle.record.specs.Event.{bit, bitsOf, eventsOf, eventsIn, someEvent}
 use Rattle.record.specs.Legal.{legalRecord}
-use Rattle.record.specs.Record.{idOf}
+use Rattle.record.specs.Parts.{idOf}
 use Rattle.record.proofs.EventBits.{events-back}
 use Rattle.table.specs.Layout.{rowWords, wordsOf, windowIn, recordOf}
 use Rattle.table.specs.Table.{sameWords, legalRow, legalAfter}

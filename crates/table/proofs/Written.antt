@@ -14,7 +14,7 @@ use Rattle.octets.proofs.JoinedTests.{both, together}
 use Rattle.octets.proofs.Runs.{drop-sets}
 use Rattle.record.specs.declared.Record.{Record}
 use Rattle.record.specs.Legal.{inRange, legalRecord}
-use Rattle.record.specs.Record.{idOf}
+use Rattle.record.specs.Parts.{idOf}
 use Rattle.table.specs.Layout.{wordsOf, recordOf}
 use Rattle.table.specs.Card.{Card, layoutNumber, headerWords, header}
 use Rattle.table.specs.Table.{layout, count, rowStart, row, put, rowsFrom, rows, recordsOf, cardOf, legalSets, sized, legalTable, Legal, writtenFrom, writtenRows, written, maxSets}

@@ -10,7 +10,7 @@ use Rattle.record.specs.declared.Attributes.{Attributes}
 use Rattle.record.specs.declared.State.{State}
 use Rattle.record.specs.declared.Notes.{Notes}
 use Rattle.record.specs.declared.Record.{Record}
-use Rattle.record.specs.Record.{stateOf}
+use Rattle.record.specs.Parts.{stateOf}
 use Rattle.record.specs.Windows.{windowNo}
 use Rattle.record.specs.Event.{bit, bitsOf, eventsIn}
 

@@ -9,7 +9,7 @@ use lib.Seq.{sets}
 use Rattle.octets.specs.Choice.{if_then_else_}
 use Rattle.octets.specs.Octets.{part}
 use Rattle.record.specs.declared.Record.{Record}
-use Rattle.record.specs.Record.{idOf}
+use Rattle.record.specs.Parts.{idOf}
 use Rattle.record.specs.Event.{bit}
 use Rattle.record.specs.Legal.{inRange, legalRecord}
 use Rattle.table.specs.declared.Found.{Found}

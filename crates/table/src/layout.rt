@@ -1,6 +1,6 @@
 // One set as a row of words, and back.
 ghost use mathlib.Core.Path.{_≡_};
-ghost use Rattle.record.specs.Record.{idOf};
+ghost use Rattle.record.specs.Parts.{idOf};
 ghost use Rattle.table.specs.Layout.{fieldWords, wordsOf, windowIn, attributesAt, stateAt, notesAt, recordOf};
 use octets::casts::from_size;
 use record::Attributes;

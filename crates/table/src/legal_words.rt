@@ -13,10 +13,10 @@ use record::legal::TYPICAL_MAXIMUM;
 
 const FOUR_BYTES_MAXIMUM: u64 = 4294967295;
 
-fn in_range(most: u64, x: u64) -> bool
+fn in_range(most: u32, x: u64) -> bool
     ensures { λ r. ⌜ r ≡ inRange most x ⌝ }
 {
-    (1 <= x) & (x <= most)
+    (1 <= x) & (x <= (most as u64))
 }
 
 fn capacities_legal(a: [u64; ROW]) -> bool

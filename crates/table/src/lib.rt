@@ -9,7 +9,7 @@ ghost use Prim.Native.Nat.{_+_, _*_, _<_, _≤_};
 ghost use lib.ListN.{length, replicate};
 ghost use lib.Seq.{sets};
 ghost use Rattle.table.specs.Layout.{wordsOf, recordOf};
-ghost use Rattle.record.specs.Record.{idOf};
+ghost use Rattle.record.specs.Parts.{idOf};
 ghost use Rattle.table.specs.Card.{headerWords};
 ghost use Rattle.table.specs.Table.{count, rowStart, row, rows, put, extentOf, sized, legalRows, legalTable, Legal, recordsOf, findIn, enterIn, listedWord, maxSets};
 use crate::layout::HEADER;

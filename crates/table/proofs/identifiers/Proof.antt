@@ -4,7 +4,7 @@ use Prim.Native.Nat.{_-_, _≤_}
 use borrow.Author.Needs.{needs}
 use lib.ListN.{replicate}
 use lib.Seq.{sets}
-use Rattle.record.specs.Record.{idOf}
+use Rattle.record.specs.Parts.{idOf}
 use Rattle.table.specs.Table.{count, recordsOf, maxSets}
 use Rattle.table.proofs.Turns.{later, later-none, later-all, ids-more}
 use Rattle.table.proofs.identifiers.Statement.{statement}
