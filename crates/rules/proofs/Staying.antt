@@ -11,12 +11,13 @@ use Rattle.record.specs.declared.Attributes.{Attributes}
 use Rattle.record.specs.declared.Config.{Config}
 use Rattle.record.specs.declared.State.{State}
 use Rattle.record.specs.declared.Effect.{Effect}
-use Rattle.record.specs.Quantities.{limit, spent, spending}
-use Rattle.record.specs.Windows.{byWindow, sameWindow}
+use Rattle.record.specs.Quantities.{limit, spentOf, spending}
+use Rattle.record.specs.Windows.{byWindow}
 use Rattle.rules.specs.declared.Cause.{Cause}
 use Rattle.rules.specs.declared.Cause.the-variants.{Excursion}
 use Rattle.rules.specs.Changes.{movedBy}
-use Rattle.rules.specs.Rules.{isOver, charge, readEvent, writeEvent, excursionEvent, tick, selecting, clearingRead}
+use Rattle.rules.specs.Door.{into, stays, going}
+use Rattle.rules.specs.Rules.{isOver, leaving, charge, readEvent, writeEvent, excursionEvent, tick, selecting, clearingRead}
 
 -- a rule whose effects leave the configuration
 abbrev pub KeepsConfig : (Attributes → State → Effect) → Type 0
@@ -32,13 +33,23 @@ module _ (c : Config) where
   by-test true e f p q = p
   by-test false e f p q = q
 
-spending-stays : (q : Quantity) (n : ℕ) (s : State) → spending q n s .config ≡ s .config
-spending-stays Reads n s = refl
-spending-stays Writes n s = refl
-spending-stays Time n s = refl
+through : (b : Bool) (s t : State) → t .config ≡ s .config → (if b then s else t) .config ≡ s .config
+through true s t p = refl
+through false s t p = p
+
+-- the door leaves it
+pub door-stays : (c : Cause) (a : Attributes) (s : State) → going c a s .config ≡ s .config
+unfolding going
+door-stays c a s = through (stays c s) s (into (movedBy (s .window) c) s) refl
+
+leaving-stays : (q : Quantity) (n : ℕ) (a : Attributes) (s : State) → leaving q n a s .config ≡ s .config
+unfolding leaving
+leaving-stays q n a s = door-stays _ a s
 
 charge-stays : (q : Quantity) (k : ℕ) → KeepsConfig (charge q k)
-charge-stays q k a s = by-test (s .config) (isOver q (limit q a) (spent q s + k)) _ _ refl (spending-stays q (spent q s + k) s)
+charge-stays q k a s =
+    let n = spentOf q (s .spent) + k in
+    by-test (s .config) (isOver q (limit q a) n) _ _ (leaving-stays q n a s) refl
 
 pub read-stays : (k : ℕ) → KeepsConfig (readEvent k)
 read-stays k a s = by-window (s .config) (s .window) _ _ _ refl (charge-stays Reads k a s) refl
@@ -46,14 +57,14 @@ read-stays k a s = by-window (s .config) (s .window) _ _ _ refl (charge-stays Re
 pub write-stays : (k : ℕ) → KeepsConfig (writeEvent k)
 write-stays k a s = by-window (s .config) (s .window) _ _ _ refl (charge-stays Writes k a s) refl
 
-pub excursion-stays : KeepsConfig (λ a s. excursionEvent s)
-excursion-stays a s = by-test (s .config) (sameWindow (movedBy (s .window) Excursion) (s .window)) _ _ refl refl
+pub excursion-stays : KeepsConfig excursionEvent
+excursion-stays a s = door-stays Excursion a s
 
 pub tick-stays : (t : ℕ) → KeepsConfig (tick t)
 tick-stays t a s = by-window (s .config) (s .window) _ _ _ refl (charge-stays Time t a s) refl
 
 pub select-stays : (c : Cause) → KeepsConfig (selecting c)
-select-stays c a s = by-test (s .config) (sameWindow (movedBy (s .window) c) (s .window)) _ _ refl refl
+select-stays c a s = door-stays c a s
 
 pub clearing-stays : KeepsConfig (λ a s. clearingRead s)
 clearing-stays a s = refl

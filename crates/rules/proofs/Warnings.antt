@@ -11,7 +11,7 @@ use Rattle.record.specs.declared.Quantity.the-variants.{Reads, Writes, Time}
 use Rattle.record.specs.declared.Config.{Config}
 use Rattle.record.specs.declared.State.{State}
 use Rattle.record.specs.declared.Effect.{Effect}
-use Rattle.record.specs.Quantities.{limit, spent, threshold, enables}
+use Rattle.record.specs.Quantities.{limit, spentOf, threshold, enables}
 use Rattle.record.specs.Event.{leftOf, warning, warns, startsBelow, andExceeded}
 use Rattle.rules.specs.Rules.{isOver, charge}
 
@@ -48,5 +48,5 @@ by-test false p e f x y = y
 
 pub one-warning : (p q : Quantity) (k : ℕ) (a : Attributes) (s : State) → (p ≡ q → ⊥) → enables p (charge q k a s .happened) ≡ false
 one-warning p q k a s n =
-    let o = own-only p q n (warns q (s .config) (leftOf q a (spent q s)) (leftOf q a (spent q s + k))) in
-    by-test (isOver q (limit q a) (spent q s + k)) p _ _ (o .1) (o .0)
+    let o = own-only p q n (warns q (s .config) (leftOf q a (spentOf q (s .spent))) (leftOf q a (spentOf q (s .spent) + k))) in
+    by-test (isOver q (limit q a) (spentOf q (s .spent) + k)) p _ _ (o .1) (o .0)

@@ -1,4 +1,6 @@
--- 01, "Window changes": what each item does to one set. A rule sees attributes and state, never events or the listed mark.
+-- 01, "Window changes": what each item does to one set. A rule sees attributes and state, never events or the listed mark, and only
+-- the door of Door.antt makes a window.
+use mathlib.Core.Path.{_≡_}
 use Prim.Native.Nat.{ℕ, _+_, _-_, min}
 use mathlib.Core.Bool.{Bool, true, false, not, _&&_}
 use lib.Dec.{ltb, leb, eqb}
@@ -16,10 +18,11 @@ use Rattle.record.specs.declared.Quantity.the-variants.{Reads, Writes, Time}
 use Rattle.record.specs.declared.Config.{Config}
 use Rattle.record.specs.declared.State.{State}
 use Rattle.record.specs.declared.Effect.{Effect}
-use Rattle.record.specs.Parts.{afresh, recovering, configured, effectOf}
-use Rattle.record.specs.Quantities.{limit, spent, need, spending}
+use Rattle.record.specs.Parts.{recovers, configured, havingRecovered, effectOf}
+use Rattle.record.specs.Quantities.{limit, spentOf, need, spending}
 use Rattle.record.specs.Windows.{byWindow, sameWindow}
 use Rattle.rules.specs.Changes.{movedBy}
+use Rattle.rules.specs.Door.{carriedBy, stays, going}
 use Rattle.record.specs.Event.{leftOf, noEvents, warning, warns, enteringD, andExceeded, anExcursion}
 use Rattle.record.specs.declared.Events.{Events}
 
@@ -41,26 +44,23 @@ abbrev pub causeOfMode : Bool → Cause
 causeOfMode true = Enable
 causeOfMode false = Disable
 
--- "Enabling always starts N afresh with time 0, also from D or N. Both enable and disable store ENEV .. and the thresholds.
--- Neither clears events or the listed mark."
-abbrev pub configure : Bool → Config → State → Effect
-configure on c s = still (configured c (afresh s (movedBy (s .window) (causeOfMode on)) 0))
+-- "Both enable and disable store ENEV (masked with C007h) and the thresholds. Neither clears events or the listed mark."
+abbrev pub configure : Bool → Config → Attributes → State → Effect
+configure on c a s = still (configured c (going (causeOfMode on) a s))
 
 -- ---- select D and select N
 
 -- "D, if time is spent": "Select D needs N time equal to minimum high."
 abbrev pub isEarly : Cause → Attributes → State → Bool
 isEarly c a s =
-    sameWindow (s .window) N && sameWindow (movedBy (s .window) c) D && not (eqb (s .«n_time») (need a))
+    sameWindow (s .window) N && sameWindow (movedBy (s .window) c) D && not (eqb (s .recovery .time) (need a))
 
--- "Entering D zeroes reads, writes and time", and reckons all three warnings; entering N notes nothing
-abbrev pub entered : Window → Attributes → State → Effect
-entered w a s = noting (afresh s w 0) (byWindow w noEvents (enteringD a (s .config)) noEvents)
+-- what happens on the way into a window: "Entering D with the estimate already below counts as such a fall", of all three
+abbrev pub onEntering : Window → Attributes → Config → Events
+onEntering w a c = byWindow w noEvents (enteringD a c) noEvents
 
--- "Selecting the window already held succeeds and changes nothing: no refill, no restart."
 abbrev pub selecting : Cause → Attributes → State → Effect
-selecting c a s =
-    if sameWindow (movedBy (s .window) c) (s .window) then still s else entered (movedBy (s .window) c) a s
+selecting c a s = noting (going c a s) (if stays c s then noEvents else onEntering (movedBy (s .window) c) a (s .config))
 
 -- ---- reads, writes, excursions and ticks
 
@@ -75,23 +75,21 @@ causeOver Reads = Exceeded
 causeOver Writes = Exceeded
 causeOver Time = TimeUp
 
--- "the excess becomes N time. N time stops at high." Reads and writes carry none over.
-abbrev pub carried : Quantity → Attributes → ℕ → ℕ
-carried Reads a n = 0
-carried Writes a n = 0
-carried Time a n = min (n - a .«time_maximum») (need a)
+-- t ms more of N time: "N time stops at high."
+abbrev pub recovering : ℕ → Attributes → State → State
+recovering t a s = havingRecovered (recovers (min (s .recovery .time + t) (need a))) s
 
--- out of D, with k more than what was spent, and bit 14 beside the warning
-abbrev pub leaving : Quantity → ℕ → Attributes → State → Events → Effect
-leaving q k a s warned =
-    noting (afresh s (movedBy (s .window) (causeOver q)) (carried q a (spent q s + k))) (andExceeded warned)
+-- out of D with n of a quantity, which is over its limit: through the door, and what the cause carries over as N time
+unfoldable pub leaving : Quantity → ℕ → Attributes → State → State
+leaving q n a s = recovering (carriedBy (causeOver q) (n - limit q a)) a (going (causeOver q) a s)
 
--- k more of a quantity in D. "An item that drives the set out of D first reckons the warning with the floored estimate, then leaves."
+-- k more of a quantity in D. "An item that drives the set out of D first reckons the warning with the floored estimate, then leaves",
+-- and bit 14 stands beside the warning.
 abbrev pub charge : Quantity → ℕ → Attributes → State → Effect
 charge q k a s =
-    let n = spent q s + k in
-    let warned = warning q (warns q (s .config) (leftOf q a (spent q s)) (leftOf q a n)) in
-    if isOver q (limit q a) n then leaving q k a s warned else noting (spending q n s) warned
+    let n = spentOf q (s .spent) + k in
+    let warned = warning q (warns q (s .config) (leftOf q a (spentOf q (s .spent))) (leftOf q a n)) in
+    if isOver q (limit q a) n then noting (leaving q n a s) (andExceeded warned) else noting (spending q n s) warned
 
 -- "A read or write event of k (0..65,535) counts only in D."
 abbrev pub readEvent : ℕ → Attributes → State → Effect
@@ -100,28 +98,30 @@ readEvent k a s = onlyInD s (charge Reads k a s)
 abbrev pub writeEvent : ℕ → Attributes → State → Effect
 writeEvent k a s = onlyInD s (charge Writes k a s)
 
--- "An excursion counts only in D": elsewhere its entry leads to the window that the set is in.
-abbrev pub excursionEvent : State → Effect
-excursionEvent s =
-    if sameWindow (movedBy (s .window) cause.Excursion) (s .window) then still s
-    else noting (afresh s (movedBy (s .window) cause.Excursion) 0) anExcursion
+-- "An excursion counts only in D": elsewhere its entry leads to the window that the set is in, and it stays.
+abbrev pub excursionEvent : Attributes → State → Effect
+excursionEvent a s = noting (going cause.Excursion a s) (if stays cause.Excursion s then noEvents else anExcursion)
 
 -- what the media layer reports of a set
 abbrev pub mediaRule : Media → Attributes → State → Effect
 mediaRule (media.Reads k) a s = readEvent k a s
 mediaRule (media.Writes k) a s = writeEvent k a s
-mediaRule media.Excursion a s = excursionEvent s
-
--- "N time stops at high."
-abbrev pub recovery : ℕ → Attributes → State → Effect
-recovery t a s = still (recovering (min (s .«n_time» + t) (need a)) s)
+mediaRule media.Excursion a s = excursionEvent a s
 
 -- "A tick of t (0..86,400,000 ms) goes to every set."
 abbrev pub tick : ℕ → Attributes → State → Effect
-tick t a s = byWindow (s .window) (still s) (charge Time t a s) (recovery t a s)
+tick t a s = byWindow (s .window) (still s) (charge Time t a s) (still (recovering t a s))
 
 -- ---- a clearing read
 
 -- "Any successful read with Retain 0 clears that set's events and listed mark, after the bytes are taken."
 abbrev pub clearingRead : State → Effect
 clearingRead s = effectOf s noEvents true
+
+-- ---- A law, proved as `carries-none` in proofs/Leads.antt.
+
+-- only time up carries N time over: who leaves D by exceeding starts N with none
+abbrev pub CarriesNone : Type 0
+CarriesNone =
+    (q : Quantity) (n : ℕ) (a : Attributes) (s : State) → s .window ≡ D → (causeOver q ≡ TimeUp → ⊥)
+    → leaving q n a s .recovery .time ≡ 0

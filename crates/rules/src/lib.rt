@@ -1,14 +1,14 @@
 // What each item does to one set. A rule sees attributes and state, never events or the listed mark, and answers an effect.
 pub mod changes;
+pub mod door;
 
 ghost use mathlib.Core.Path.{_≡_};
 ghost use Prim.Native.Nat.{_+_};
-ghost use Rattle.record.specs.declared.Window.{Window};
-ghost use Rattle.rules.specs.declared.Cause.{Cause};
-ghost use Rattle.record.specs.Parts.{afresh, effectOf};
-ghost use Rattle.rules.specs.Changes.{movedBy};
-ghost use Rattle.rules.specs.Rules.{still, onlyInD, causeOfMode, configure, isEarly, entered, selecting, isOver, causeOver, carried, leaving, charge, readEvent, writeEvent, excursionEvent, mediaRule, recovery, tick, clearingRead};
+ghost use Rattle.rules.specs.Rules.{noting, still, onlyInD, causeOfMode, configure, isEarly, onEntering, selecting, isOver, causeOver, recovering, leaving, charge, readEvent, writeEvent, excursionEvent, mediaRule, tick, clearingRead};
 use crate::changes::moved;
+use crate::door::carried_over;
+use crate::door::go;
+use crate::door::is_staying;
 use record::Attributes;
 use record::Config;
 use record::Effect;
@@ -22,12 +22,12 @@ use record::event::entering_d;
 use record::event::no_events;
 use record::event::warned;
 use record::event::warning_of;
+use record::parts::effect_of;
+use record::parts::recovered;
 use record::quantities::capped;
 use record::quantities::floored;
 use record::quantities::limit_of;
 use record::quantities::need_of;
-use record::quantities::passes;
-use record::quantities::reaches;
 use record::quantities::spent_of;
 use record::quantities::with_spent;
 use record::windows::same_window;
@@ -59,35 +59,16 @@ pub enum Media {
     Excursion,
 }
 
-fn effect_of(state: State, happened: Events, clears: bool) -> Effect
-    ensures { λ r. ⌜ r ≡ effectOf state happened clears ⌝ }
+fn note(s: State, e: Events) -> Effect
+    ensures { λ r. ⌜ r ≡ noting s e ⌝ }
 {
-    Effect {
-        state,
-        happened,
-        clears,
-    }
+    effect_of(s, e, false)
 }
 
 pub fn keep_still(s: State) -> Effect
     ensures { λ r. ⌜ r ≡ still s ⌝ }
 {
-    effect_of(s, no_events(), false)
-}
-
-// Another window, with nothing spent in it and n ms of N time. The one place that makes a state.
-fn started(s: State, w: Window, n: u64) -> State
-    ensures { λ r. ⌜ r ≡ afresh s w n ⌝ }
-{
-    let c = s.config;
-    State {
-        window: w,
-        config: c,
-        reads: 0,
-        writes: 0,
-        time: 0,
-        n_time: n,
-    }
+    note(s, no_events())
 }
 
 fn cause_of_mode(on: bool) -> Cause
@@ -97,11 +78,10 @@ fn cause_of_mode(on: bool) -> Cause
 }
 
 // Set Features 13h: enable or disable, with what it stores.
-pub fn set_mode(s: State, on: bool, c: Config) -> Effect
-    ensures { λ r. ⌜ r ≡ configure on c s ⌝ }
+pub fn set_mode(a: Attributes, s: State, on: bool, c: Config) -> Effect
+    ensures { λ r. ⌜ r ≡ configure on c a s ⌝ }
 {
-    let w = s.window;
-    let mut t = started(s, moved(w, cause_of_mode(on)), 0);
+    let mut t = go(cause_of_mode(on), a, s);
     t.config = c;
     keep_still(t)
 }
@@ -111,7 +91,7 @@ pub fn is_early(a: Attributes, s: State, c: Cause) -> bool
     ensures { λ r. ⌜ r ≡ isEarly c a s ⌝ }
 {
     let need = need_of(a);
-    if s.n_time == need {
+    if s.recovery.time == need {
         return false;
     }
     let w = s.window;
@@ -120,16 +100,13 @@ pub fn is_early(a: Attributes, s: State, c: Cause) -> bool
     from_n & to_d
 }
 
-// Into another window, with the events of entering it.
-fn go_into(a: Attributes, s: State, w: Window) -> Effect
-    ensures { λ r. ⌜ r ≡ entered w a s ⌝ }
+fn on_entering(w: Window, a: Attributes, c: Config) -> Events
+    ensures { λ r. ⌜ r ≡ onEntering w a c ⌝ }
 {
-    let c = s.config;
-    let t = started(s, w, 0);
     match w {
-        Window::Off => keep_still(t),
-        Window::D => effect_of(t, entering_d(a, c), false),
-        Window::N => keep_still(t),
+        Window::Off => no_events(),
+        Window::D => entering_d(a, c),
+        Window::N => no_events(),
     }
 }
 
@@ -137,22 +114,23 @@ pub fn go_to_selected(a: Attributes, s: State, c: Cause) -> Effect
     ensures { λ r. ⌜ r ≡ selecting c a s ⌝ }
 {
     let w = s.window;
-    let next = moved(w, c);
-    if same_window(next, w) {
-        keep_still(s)
+    let config = s.config;
+    let t = go(c, a, s);
+    if is_staying(c, s) {
+        keep_still(t)
     } else {
-        go_into(a, s, next)
+        note(t, on_entering(moved(w, c), a, config))
     }
 }
 
 // Reads and writes leave D past their typical, time at its maximum.
-fn is_over(q: Quantity, count: u64, k: u64, most: u64) -> bool
-    ensures { λ r. ⌜ r ≡ isOver q most (count + k) ⌝ }
+fn is_over(q: Quantity, most: u64, n: u64) -> bool
+    ensures { λ r. ⌜ r ≡ isOver q most n ⌝ }
 {
     match q {
-        Quantity::Reads => passes(count, k, most),
-        Quantity::Writes => passes(count, k, most),
-        Quantity::Time => reaches(count, k, most),
+        Quantity::Reads => most < n,
+        Quantity::Writes => most < n,
+        Quantity::Time => most <= n,
     }
 }
 
@@ -166,57 +144,49 @@ fn cause_over(q: Quantity) -> Cause
     }
 }
 
-// What count + k carries over into N. Of time the excess over the maximum, made of differences, so that no sum wraps.
-fn carried_over(a: Attributes, q: Quantity, count: u64, k: u64) -> u64
-    ensures { λ r. ⌜ r ≡ carried q a (count + k) ⌝ }
+// t ms more of N time, up to the need.
+fn recover(a: Attributes, s: State, t: u64) -> State
+    ensures { λ r. ⌜ r ≡ recovering t a s ⌝ }
 {
-    match q {
-        Quantity::Reads => 0,
-        Quantity::Writes => 0,
-        Quantity::Time => {
-            let most = a.time_maximum;
-            let already = floored(count, most);
-            let more = floored(k, floored(most, count));
-            capped(already, more, need_of(a))
-        }
-    }
+    let n = capped(s.recovery.time, t, need_of(a));
+    let more = recovered(n);
+    let mut r = s;
+    r.recovery = more;
+    r
 }
 
-// Out of D, with the warning that was reckoned and bit 14. That the set is in D stands in the code, so that the compiler can read the
-// table's entry ahead.
-fn leave_d(a: Attributes, s: State, q: Quantity, k: u64, low: Events) -> Effect
-    requires { ⌜ s .window ≡ Window.D ⌝ }
-    ensures { λ r. ⌜ r ≡ leaving q k a s low ⌝ }
+// Out of D with n of a quantity: through the door, and what the cause carries over.
+fn leave_d(a: Attributes, s: State, q: Quantity, n: u64) -> State
+    ensures { λ r. ⌜ r ≡ leaving q n a s ⌝ }
 {
-    let n = carried_over(a, q, spent_of(s, q), k);
-    let t = started(s, moved(Window::D, cause_over(q)), n);
-    effect_of(t, and_exceeded(low), false)
+    let most = limit_of(a, q) as u64;
+    let c = cause_over(q);
+    recover(a, go(c, a, s), carried_over(c, floored(n, most)))
 }
 
-// The estimate after is that before less k, so the sum is made only where it is within the limit.
-fn charge_by(a: Attributes, s: State, q: Quantity, k: u64) -> Effect
-    requires { ⌜ s .window ≡ Window.D ⌝ }
+fn charge_by(a: Attributes, s: State, q: Quantity, k: u32) -> Effect
     ensures { λ r. ⌜ r ≡ charge q k a s ⌝ }
 {
-    let most = limit_of(a, q);
-    let count = spent_of(s, q);
+    let most = limit_of(a, q) as u64;
+    let p = s.spent;
     let c = s.config;
-    let before = floored(most, count);
-    let low = warning_of(q, warned(c, q, before, floored(before, k)));
-    if is_over(q, count, k, most) {
-        leave_d(a, s, q, k, low)
+    let count = spent_of(p, q) as u64;
+    let n = count + (k as u64);
+    let low = warning_of(q, warned(c, q, floored(most, count), floored(most, n)));
+    if is_over(q, most, n) {
+        note(leave_d(a, s, q, n), and_exceeded(low))
     } else {
-        effect_of(with_spent(s, q, count + k), low, false)
+        note(with_spent(s, q, n as u32), low)
     }
 }
 
-fn charge_in_d(a: Attributes, s: State, q: Quantity, k: u64) -> Effect
+fn charge_in_d(a: Attributes, s: State, q: Quantity, k: u16) -> Effect
     ensures { λ r. ⌜ r ≡ onlyInD s (charge q k a s) ⌝ }
 {
     let w = s.window;
     match w {
         Window::Off => keep_still(s),
-        Window::D => charge_by(a, s, q, k),
+        Window::D => charge_by(a, s, q, k as u32),
         Window::N => keep_still(s),
     }
 }
@@ -224,35 +194,23 @@ fn charge_in_d(a: Attributes, s: State, q: Quantity, k: u64) -> Effect
 pub fn read_event(a: Attributes, s: State, k: u16) -> Effect
     ensures { λ r. ⌜ r ≡ readEvent k a s ⌝ }
 {
-    charge_in_d(a, s, Quantity::Reads, k as u64)
+    charge_in_d(a, s, Quantity::Reads, k)
 }
 
 pub fn write_event(a: Attributes, s: State, k: u16) -> Effect
     ensures { λ r. ⌜ r ≡ writeEvent k a s ⌝ }
 {
-    charge_in_d(a, s, Quantity::Writes, k as u64)
+    charge_in_d(a, s, Quantity::Writes, k)
 }
 
-// The window after an excursion. That each window stands in the code lets the compiler read the table's entries ahead.
-fn after_excursion(w: Window) -> Window
-    ensures { λ r. ⌜ r ≡ movedBy w Cause.Excursion ⌝ }
+pub fn excursion_event(a: Attributes, s: State) -> Effect
+    ensures { λ r. ⌜ r ≡ excursionEvent a s ⌝ }
 {
-    match w {
-        Window::Off => moved(Window::Off, Cause::Excursion),
-        Window::D => moved(Window::D, Cause::Excursion),
-        Window::N => moved(Window::N, Cause::Excursion),
-    }
-}
-
-pub fn excursion_event(s: State) -> Effect
-    ensures { λ r. ⌜ r ≡ excursionEvent s ⌝ }
-{
-    let w = s.window;
-    let next = after_excursion(w);
-    if same_window(next, w) {
-        keep_still(s)
+    let t = go(Cause::Excursion, a, s);
+    if is_staying(Cause::Excursion, s) {
+        keep_still(t)
     } else {
-        effect_of(started(s, next, 0), an_excursion(), false)
+        note(t, an_excursion())
     }
 }
 
@@ -262,16 +220,8 @@ pub fn media_event(a: Attributes, s: State, m: Media) -> Effect
     match m {
         Media::Reads(k) => read_event(a, s, k),
         Media::Writes(k) => write_event(a, s, k),
-        Media::Excursion => excursion_event(s),
+        Media::Excursion => excursion_event(a, s),
     }
-}
-
-fn recover(a: Attributes, s: State, t: u64) -> Effect
-    ensures { λ r. ⌜ r ≡ recovery t a s ⌝ }
-{
-    let mut r = s;
-    r.n_time = capped(s.n_time, t, need_of(a));
-    keep_still(r)
 }
 
 pub fn tick_event(a: Attributes, s: State, t: u32) -> Effect
@@ -280,8 +230,8 @@ pub fn tick_event(a: Attributes, s: State, t: u32) -> Effect
     let w = s.window;
     match w {
         Window::Off => keep_still(s),
-        Window::D => charge_by(a, s, Quantity::Time, t as u64),
-        Window::N => recover(a, s, t as u64),
+        Window::D => charge_by(a, s, Quantity::Time, t),
+        Window::N => keep_still(recover(a, s, t as u64)),
     }
 }
 

@@ -8,13 +8,11 @@ excursion-event-spec =
     tie.close
     (tie.spec
     (λ c κs. search needs) (λ c κs. search needs) (λ c κs. search needs) (λ c κs. search needs) (λ c κs. search needs)
-    (λ c κs. search needs)
     (λ c.
     let t = c .before in
-    let e = rw (t .before .before .after-excursion .ensures) at (sym (t .before .same-window .ensures) ∙ t .if1 .taken) in
-    simp (c .keep-still .ensures, e))
+    let e = sym (t .before .is-staying .ensures) ∙ t .if1 .taken in
+    simp (c .keep-still .ensures, t .before .before .go .ensures, e))
     (λ c.
-    let t = c .before .before .before in
-    let m = t .before .before .after-excursion .ensures in
-    let e = rw m at (sym (t .before .same-window .ensures) ∙ t .if1 .left) in
-    simp (c .effect-of .ensures, c .before .an-excursion .ensures, c .before .before .started .ensures, e, m)))
+    let t = c .before .before in
+    let e = sym (t .before .is-staying .ensures) ∙ t .if1 .left in
+    simp (c .note .ensures, c .before .an-excursion .ensures, t .before .before .go .ensures, e)))

@@ -7,13 +7,13 @@ pub go-to-selected-spec : {M : Type 1} → statement M
 go-to-selected-spec =
     tie.close
     (tie.spec
-    (λ c κs. search needs) (λ c κs. search needs) (λ c κs. search needs) (λ c κs. search needs)
+    (λ c κs. search needs) (λ c κs. search needs) (λ c κs. search needs) (λ c κs. search needs) (λ c κs. search needs)
+    (λ c κs. search needs)
     (λ c.
     let t = c .before in
-    let e = rw (t .before .before .moved .ensures) at (sym (t .before .same-window .ensures) ∙ t .if1 .taken) in
-    simp (c .keep-still .ensures, e))
+    let e = sym (t .before .is-staying .ensures) ∙ t .if1 .taken in
+    simp (c .keep-still .ensures, t .before .before .go .ensures, e))
     (λ c.
-    let t = c .before in
-    let m = t .before .before .moved .ensures in
-    let e = rw m at (sym (t .before .same-window .ensures) ∙ t .if1 .left) in
-    simp (c .go-into .ensures, e, m)))
+    let t = c .before .before .before in
+    let e = sym (t .before .is-staying .ensures) ∙ t .if1 .left in
+    simp (c .note .ensures, c .before .on-entering .ensures, c .before .before .moved .ensures, t .before .before .go .ensures, e)))

@@ -6,8 +6,9 @@ pub is-over-spec : {M : Type 1} → statement M
 is-over-spec =
     tie.close
     (tie.spec
-    (λ c. search needs) (λ c κs. search needs) (λ c. search needs) (λ c κs. search needs) (λ c. search needs)
-    (λ c κs. search needs)
-    (λ c. simp (c .passes .ensures, c .before .enum-told .given .1))
-    (λ c. simp (c .passes2 .ensures, c .before .enum-told2 .given .1))
-    (λ c. simp (c .reaches .ensures, c .before .enum-told3 .given .1)))
+    (λ c. search needs)
+    (λ c. search needs)
+    (λ c. search needs)
+    (λ c. simp (c .enum-told .given .1))
+    (λ c. simp (c .enum-told2 .given .1))
+    (λ c. simp (c .enum-told3 .given .1)))
