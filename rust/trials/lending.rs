@@ -7,8 +7,8 @@ use crate::holding::first_difference;
 use crate::random::Random;
 use crate::samples::{self, Item};
 use model::layout::field::{IDENTIFIER, LISTED, WINDOW};
-use model::layout::{read_row, read_table, table_bytes, word_of, BODY_BYTES, HEADER_BYTES, MAX_SETS};
-use model::set::{Set, EVENT_MASK};
+use model::layout::{read_body, read_row, read_table, table_bytes, word_of, BODY_BYTES, HEADER_BYTES, MAX_SETS};
+use model::set::{Attributes, Set, EVENT_MASK};
 use model::status;
 use std::collections::BTreeMap;
 
@@ -92,13 +92,13 @@ fn event(random: &Random, item: Item, table: &[u8]) -> Call {
     Call::plain(random, function, table, &[])
 }
 
-/// Damage that a record can hold: it has no unused bits.
+/// Damage that a record can hold: it has no unused bits, and four bytes for each typical, time and count.
 fn damaged(random: &Random, table: &[u8]) -> Vec<u8> {
     loop {
         let mut spoiled = table.to_vec();
         damage_table(random, &mut spoiled);
         let is_whole = spoiled.len() == table.len() && spoiled[..HEADER_BYTES] == table[..HEADER_BYTES];
-        if is_whole && read_row(&spoiled[HEADER_BYTES..]).map_or(false, |set| has_known_bits(&set)) {
+        if is_whole && read_row(&spoiled[HEADER_BYTES..]).map_or(false, |set| has_known_bits(&set) && has_small_counts(&set)) {
             return spoiled;
         }
     }
@@ -106,6 +106,21 @@ fn damaged(random: &Random, table: &[u8]) -> Vec<u8> {
 
 fn has_known_bits(set: &Set) -> bool {
     (set.configuration.enev | set.events) & !EVENT_MASK == 0
+}
+
+fn has_small_counts(set: &Set) -> bool {
+    has_small_limits(&set.attributes) && set.charges.iter().chain([&set.n_time]).all(|&count| count <= u64::from(u32::MAX))
+}
+
+fn has_small_limits(of: &Attributes) -> bool {
+    [of.reads_typical, of.writes_typical, of.time_maximum, of.minimum_high, of.minimum_low]
+        .iter()
+        .all(|&limit| limit <= u64::from(u32::MAX))
+}
+
+/// Whether each body is one of attributes that a record can hold.
+fn fit_attributes(bodies: &[u8]) -> bool {
+    bodies.chunks_exact(BODY_BYTES).all(|body| has_small_limits(&read_body(body.try_into().expect("a body is cut to its length"))))
 }
 
 fn set_up(random: &Random) -> Call {
@@ -118,7 +133,7 @@ fn set_up(random: &Random) -> Call {
         if random.once_in(2) {
             damage_bodies(random, &mut bodies);
         }
-        if bodies.len() == sets * BODY_BYTES {
+        if bodies.len() == sets * BODY_BYTES && fit_attributes(&bodies) {
             break bodies;
         }
     };

@@ -1,6 +1,6 @@
 -- Set-up, from its bodies to the table: a turn of its loops, and what its functions leave.
 use mathlib.Core.Path.{_≡_, refl, sym, ap, _∙_}
-use mathlib.Core.Bool.{Bool, true, false, _&&_, and-true}
+use mathlib.Core.Bool.{Bool, true, false, _&&_, and-true, and-false}
 use mathlib.Core.List.{List, [], _∷_, map}
 use Prim.Native.Nat.{ℕ, zero, suc, _+_, _-_, _*_, _≤_, _<_}
 use native.Mathlib.Omega.{arith}
@@ -20,10 +20,10 @@ use Rattle.table.specs.Layout.{wordsOf}
 use Rattle.table.specs.Card.{Card, layoutNumber, header}
 use Rattle.table.specs.Table.{rowStart, put, recordsOf, legalSets, legalTable, writtenFrom, writtenRows, written, maxSets}
 use Rattle.table.proofs.Written.{Fitting, written-back, written-legal}
-use Rattle.pages.specs.Bodies.{bodySize, attributesIn}
+use Rattle.pages.specs.Bodies.{bodySize, attributesIn, limitsFit}
 use Rattle.replies.specs.Answers.{granted, refused}
 use Rattle.steps.specs.Words.{Result}
-use Rattle.steps.specs.SetUp.{newRecord, attributesFrom, bodies, newSets, newCard, setUpLines, setUpStatus, newTable, setUp, SetUp}
+use Rattle.steps.specs.SetUp.{newRecord, attributesFrom, bodies, newSets, fitFrom, newCard, setUpLines, setUpStatus, newTable, setUp, SetUp}
 use Rattle.steps.proofs.NewSets.{new-length, new-header}
 use Rattle.by_value.specs.SetUp.{followsOf}
 
@@ -40,21 +40,30 @@ new-legal a = rw (and-true, and-true)
 
 -- ---- the bodies are held against 01
 
-abbrev pub legalFrom : ℕ → List Attributes → Bool
-legalFrom before list = legalSets before (map newRecord list)
+-- n bodies from a place on, after an identifier
+abbrev pub legalFrom : ℕ → List ℕ → ℕ → ℕ → Bool
+legalFrom before bytes at n = fitFrom bytes at n && legalSets before (map newRecord (attributesFrom bytes at n))
 
-module _ (bytes : List ℕ) (n i at before : ℕ) (goal : Bool) (inv : legalFrom before (attributesFrom bytes at (n - i)) ≡ goal) where
+-- two pairs of tests, by their firsts and their seconds
+crossed : (x f y l : Bool) → (x && f) && (y && l) ≡ (x && y) && (f && l)
+crossed true f true l = refl
+crossed true f false l = and-false f
+crossed false f y l = refl
+
+module _ (bytes : List ℕ) (n i at before : ℕ) (goal : Bool) (inv : legalFrom before bytes at (n - i) ≡ goal) where
   pub legal-end : n ≤ i → true ≡ goal
-  legal-end h = rw (bodies-none bytes n i at h) at inv
+  legal-end h = let e : n - i ≡ 0 = omega arith in rw e at inv
 
-  module _ (a : Attributes) (s : Bool) (h : i < n) (ea : a ≡ attributesIn bytes at) (es : s ≡ followsOf before a) where
-    turn : s && legalFrom (a .id .0) (attributesFrom bytes (at + bodySize) (n - (i + 1))) ≡ goal
-    turn = rw (es, ea, ← new-legal (attributesIn bytes at)) (rw (bodies-more bytes n i at h) at inv)
+  module _ (a : Attributes) (f s : Bool) (h : i < n) (ea : a ≡ attributesIn bytes at) (ef : f ≡ limitsFit bytes at) (es : s ≡ followsOf before f a) where
+    turn : s && legalFrom (a .id .0) bytes (at + bodySize) (n - (i + 1)) ≡ goal
+    turn =
+        let e : n - i ≡ suc (n - (i + 1)) = omega arith in
+        rw (es, ef, ea, ← new-legal (attributesIn bytes at)) (sym (crossed (limitsFit bytes at) _ _ _) ∙ rw e at inv)
 
     pub legal-stop : s ≡ false → false ≡ goal
     legal-stop e = rw e at turn
 
-    pub legal-again : s ≡ true → legalFrom (a .id .0) (attributesFrom bytes (at + bodySize) (n - (i + 1))) ≡ goal
+    pub legal-again : s ≡ true → legalFrom (a .id .0) bytes (at + bodySize) (n - (i + 1)) ≡ goal
     legal-again e = rw e at turn
 
 -- ---- the rows are written

@@ -5,6 +5,6 @@ use lib.Dec.{ltb}
 use Rattle.record.specs.declared.Attributes.{Attributes}
 use Rattle.record.specs.Legal.{legalAttributes}
 
--- attributes in range, the identifier above the one before
-abbrev pub followsOf : ℕ → Attributes → Bool
-followsOf before a = legalAttributes a && ltb before (a .id .0)
+-- limits that fit, attributes in range, the identifier above the one before
+abbrev pub followsOf : ℕ → Bool → Attributes → Bool
+followsOf before fit a = fit && (legalAttributes a && ltb before (a .id .0))

@@ -57,10 +57,11 @@ pub fn status_on(early: u16, k: Kind, c: Command, given: usize, room: usize, r: 
 
 pub fn after_config(r: Record, c: Command, given: &[u8]) -> Record
     requires { ⌜ featureSize ≤ length (now given) ⌝ }
-    ensures { λ x. ⌜ x ≡ settled r (configure (enable c) (configIn (now (given .entry))) (r .state)) ⌝ }
+    ensures { λ x. ⌜ x ≡ settled r (configure (enable c) (configIn (now (given .entry))) (r .attributes) (r .state)) ⌝ }
 {
+    let a = r.attributes;
     let s = r.state;
-    settle(r, set_mode(s, enables(c), config_in(given)))
+    settle(r, set_mode(a, s, enables(c), config_in(given)))
 }
 
 pub fn after_window(r: Record, c: Command) -> Record

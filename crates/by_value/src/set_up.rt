@@ -1,24 +1,27 @@
 // The record of a new set, and what set-up refuses.
 ghost use mathlib.Core.Path.{_≡_};
-ghost use mathlib.Core.Bool.{true};
+ghost use mathlib.Core.Bool.{_&&_};
 ghost use mathlib.Core.List.{map};
 ghost use Prim.Native.Nat.{_+_, _*_, _≤_};
 ghost use lib.ListN.{length};
 ghost use Rattle.table.specs.Table.{legalSets};
 ghost use Rattle.pages.specs.Bodies.{bodySize};
-ghost use Rattle.steps.specs.SetUp.{newState, newRecord, attributesFrom, setUpStatus};
+ghost use Rattle.steps.specs.SetUp.{newState, newRecord, attributesFrom, fitFrom, setUpStatus};
 ghost use Rattle.by_value.specs.SetUp.{followsOf};
 use pages::bodies::BODY;
 use pages::bodies::attributes_in;
+use pages::bodies::limits_fit;
 use record::Attributes;
-use record::Config;
 use record::Notes;
 use record::Record;
 use record::State;
-use record::Thresholds;
 use record::Window;
 use record::event::no_events;
 use record::legal::attributes_legal;
+use record::parts::config_of;
+use record::parts::nothing_recovered;
+use record::parts::nothing_spent;
+use record::parts::state_of;
 use replies::numbers::BAD_SET_UP;
 use replies::numbers::TOO_SHORT;
 use table::MAX_SETS;
@@ -28,24 +31,8 @@ use table::layout::ROW;
 fn new_state() -> State
     ensures { λ r. ⌜ r ≡ newState ⌝ }
 {
-    let enabled = no_events();
-    let thresholds = Thresholds {
-        reads: 0,
-        writes: 0,
-        time: 0,
-    };
-    let config = Config {
-        enabled: enabled,
-        thresholds: thresholds,
-    };
-    State {
-        window: Window::Off,
-        config: config,
-        reads: 0,
-        writes: 0,
-        time: 0,
-        n_time: 0,
-    }
+    let config = config_of(no_events(), 0, 0, 0);
+    state_of(Window::Off, config, nothing_spent(), nothing_recovered())
 }
 
 pub fn new_record(a: Attributes) -> Record
@@ -64,24 +51,26 @@ pub fn new_record(a: Attributes) -> Record
     }
 }
 
-// Whether attributes are in range and their identifier is above the one before.
-fn follows(before: u64, a: Attributes) -> bool
-    ensures { λ r. ⌜ r ≡ followsOf before a ⌝ }
+// Whether limits fit, attributes are in range and their identifier is above the one before.
+fn follows(before: u64, fit: bool, a: Attributes) -> bool
+    ensures { λ r. ⌜ r ≡ followsOf before fit a ⌝ }
 {
     let id = a.id.0 as u64;
-    attributes_legal(a) & (before < id)
+    let legal = attributes_legal(a);
+    fit & (legal & (before < id))
 }
 
 fn bodies_legal(bytes: &[u8], n: usize) -> bool
     requires { ⌜ n * bodySize ≤ length (now bytes) ⌝ }
-    ensures { λ r. ⌜ r ≡ legalSets 0 (map newRecord (attributesFrom (now (bytes .entry)) 0 n)) ⌝ }
+    ensures { λ r. ⌜ r ≡ fitFrom (now (bytes .entry)) 0 n && legalSets 0 (map newRecord (attributesFrom (now (bytes .entry)) 0 n)) ⌝ }
 {
     let mut before = 0;
     let mut at = 0;
     let mut i = 0;
     while i < n {
         let a = attributes_in(bytes, at);
-        if follows(before, a) {
+        let fit = limits_fit(bytes, at);
+        if follows(before, fit, a) {
             before = a.id.0 as u64;
         } else {
             return false;

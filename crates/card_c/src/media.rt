@@ -69,11 +69,12 @@ fn writes_at(region: &mut [u8], slot: Slot, k: u16)
 
 fn excursion_at(region: &mut [u8], slot: Slot)
     requires { ⌜ LegalAt (now region) (slot .0) ⌝ }
-    ensures { λ _. ⌜ now (region .exit) ≡ ruledAt (λ a s. excursionEvent s) (now (region .entry)) (slot .0) ⌝ }
+    ensures { λ _. ⌜ now (region .exit) ≡ ruledAt excursionEvent (now (region .entry)) (slot .0) ⌝ }
 {
     let r = load(region, slot);
+    let a = r.attributes;
     let s = r.state;
-    store_effect(region, slot, r, excursion_event(s));
+    store_effect(region, slot, r, excursion_event(a, s));
 }
 
 fn tick_at(region: &mut [u8], slot: Slot, t: u32)

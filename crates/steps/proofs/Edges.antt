@@ -10,15 +10,16 @@ use Rattle.octets.specs.Pages.{place}
 use Rattle.record.specs.declared.Window.{Window}
 use Rattle.record.specs.declared.Window.the-variants.{D, N}
 use Rattle.record.specs.declared.Attributes.{Attributes}
-use Rattle.record.specs.declared.Events.{Events}
 use Rattle.record.specs.declared.Config.{Config}
 use Rattle.record.specs.declared.Record.{Record}
-use Rattle.record.specs.Parts.{stateOf}
+use Rattle.record.specs.Parts.{configOf, recovers, nothingSpent, stateOf}
 use Rattle.record.specs.Event.{eventsOf, noEvents, bitsOf}
 use Rattle.pages.specs.Latency.{latencyPage}
 use Rattle.steps.specs.Items.{Card, Item, reads, excursion, tick, command}
 use Rattle.commands.specs.Commands.{commandIn}
 use Rattle.commands.specs.Shapes.{kindBy}
+use Rattle.rules.specs.Door.{going}
+use Rattle.rules.specs.Rules.{leaving}
 use Rattle.steps.specs.Commanded.{commandMeaning}
 use Rattle.steps.specs.Meanings.{meaning}
 use Rattle.steps.specs.Order.{seven}
@@ -26,18 +27,15 @@ use Rattle.steps.specs.Card.{refusalOf, effectOn, concerns, touched, ans
 
 -- ---- the cards to start from
 
-abbrev pub configOf : Events → ℕ → Config
-configOf e limit = record { enabled = e; thresholds = record { reads = limit; writes = 0; time = 0 } }
-
 -- ENEV 4001h and reads threshold 10
 abbrev pub warned : Config
-warned = configOf (eventsOf true false false true false) 10
+warned = configOf (eventsOf true false false true false) 10 0 0
 
 -- in a window, with nothing spent in D and n ms of N time
 abbrev pub cardIn : Window → Config → ℕ → Card
 cardIn w c n =
     record {
-      sets = record { attributes = seven; state = stateOf w c 0 0 0 n; notes = record { events = noEvents; listed = false } } ∷ [];
+      sets = record { attributes = seven; state = stateOf w c nothingSpent (recovers n); notes = record { events = noEvents; listed = false } } ∷ [];
     }
 
 abbrev pub inD : Card
@@ -85,9 +83,9 @@ shown r =
       window = r .state .window;
       events = bitsOf (r .notes .events);
       listed = r .notes .listed;
-      reads = r .state .reads;
-      time = r .state .time;
-      nTime = r .state .«n_time»;
+      reads = r .state .spent .reads;
+      time = r .state .spent .time;
+      nTime = r .state .recovery .time;
     }
 
 abbrev seen : Outcome → Seen
@@ -110,8 +108,8 @@ got =
     ∷ seen (step inD (tick 1007 0))
     ∷ seen (step (cardIn N warned 19) selectD)
     ∷ seen (step (cardIn N warned 20) selectD)
-    ∷ seen (step (cardIn D (configOf noEvents 0) 0) (excursion 7))
-    ∷ seen (step (step (cardIn D (configOf noEvents 0) 0) (excursion 7) .card) enableBit15)
+    ∷ seen (step (cardIn D (configOf noEvents 0 0 0) 0) (excursion 7))
+    ∷ seen (step (step (cardIn D (configOf noEvents 0 0 0) 0) (excursion 7) .card) enableBit15)
     ∷ seen (step (step inD (reads 7 91) .card) (readFrom 512))
     ∷ seen (step (step inD (reads 7 91) .card) (readFrom 516))
     ∷ []
@@ -134,5 +132,5 @@ expected =
     ∷ []
 
 edges : got ≡ expected
-unfolding got expected commandIn kindBy commandMeaning meaning refusalOf effectOn concerns touched answer latencyPage place
+unfolding got expected commandIn kindBy commandMeaning meaning refusalOf effectOn concerns touched answer going leaving latencyPage place
 edges = refl

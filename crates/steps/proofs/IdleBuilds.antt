@@ -18,7 +18,7 @@ use Rattle.steps.proofs.Edges.{inD}
 -- the reads of the first set
 readsOf : List Record → ℕ
 readsOf [] = 0
-readsOf (r ∷ rs) = r .state .reads
+readsOf (r ∷ rs) = r .state .spent .reads
 
 -- "One that refuses all": 90 reads of set 7 in D succeed
 not-refusing-all : ((c : Card) (i : Item) → answer c i .status ≡ 0 → ⊥) → ⊥

@@ -19,15 +19,19 @@ use Rattle.record.specs.declared.Quantity.the-variants.{Reads, Writes, Time}
 use Rattle.record.specs.declared.State.{State}
 use Rattle.record.specs.declared.Record.{Record}
 use Rattle.record.specs.declared.Effect.{Effect}
-use Rattle.record.specs.Parts.{afresh, idOf}
-use Rattle.record.specs.Quantities.{limit, spent, spending}
+use Rattle.record.specs.Parts.{idOf}
+use Rattle.record.specs.Quantities.{limit, spentOf, spending}
 use Rattle.record.specs.Event.{bit}
-use Rattle.record.specs.Windows.{byWindow, windowNo, sameWindow}
+use Rattle.record.specs.Windows.{byWindow, windowNo}
 use Rattle.replies.specs.Status.{line}
 use Rattle.commands.proofs.Passed.{early-passed, late-passed, unknown-not-zero}
+use Rattle.rules.specs.declared.Cause.{Cause}
 use Rattle.rules.specs.declared.Cause.the-variants.{Excursion, Exceeded, TimeUp}
 use Rattle.rules.specs.Changes.{movedBy, refusedBy}
+use Rattle.rules.specs.Door.{going}
 use Rattle.rules.specs.Rules as rules
+use Rattle.rules.proofs.Leads.{leads}
+use Rattle.rules.proofs.Staying.{door-stays}
 use Rattle.pages.specs.Features.{configIn}
 use Rattle.octets.specs.Lists.{first}
 use Rattle.commands.specs.declared.Command.{Command}
@@ -103,24 +107,26 @@ set-mode false Off = refl
 set-mode false D = refl
 set-mode false N = refl
 
-leaves : (q : Quantity) (s : State) (n : ℕ) → Kept s (afresh s (movedBy (s .window) (rules.causeOver q)) n)
-leaves Reads s n = record { mode = exceeded-mode (s .window); config = refl }
-leaves Writes s n = record { mode = exceeded-mode (s .window); config = refl }
-leaves Time s n = record { mode = time-up-mode (s .window); config = refl }
+-- so the door keeps both, where the cause keeps the mode
+through-door : (c : Cause) (a : Attributes) (s : State) → ((w : Window) → modeIn (movedBy w c) ≡ modeIn w) → Kept s (going c a s)
+through-door c a s h = record { mode = ap modeIn (leads c a s) ∙ h (s .window); config = door-stays c a s }
 
-spends : (q : Quantity) (s : State) (n : ℕ) → Kept s (spending q n s)
-spends Reads s n = record { mode = refl; config = refl }
-spends Writes s n = record { mode = refl; config = refl }
-spends Time s n = record { mode = refl; config = refl }
+over-mode : (q : Quantity) (w : Window) → modeIn (movedBy w (rules.causeOver q)) ≡ modeIn w
+over-mode Reads w = exceeded-mode w
+over-mode Writes w = exceeded-mode w
+over-mode Time w = time-up-mode w
+
+leaves : (q : Quantity) (n : ℕ) (a : Attributes) (s : State) → Kept s (rules.leaving q n a s)
+unfolding rules.leaving
+leaves q n a s = let k = through-door (rules.causeOver q) a s (over-mode q) in record { mode = k .mode; config = k .config }
 
 charge-kept : (q : Quantity) (k : ℕ) (a : Attributes) (s : State) → Kept s (rules.charge q k a s .state)
 charge-kept q k a s =
-    by-test (rules.isOver q (limit q a) (spent q s + k)) s _ _ (leaves q s (rules.carried q a (spent q s + k))) (spends q s (spent q s + k))
+    let n = spentOf q (s .spent) + k in
+    by-test (rules.isOver q (limit q a) n) s _ _ (leaves q n a s) (record { mode = refl; config = refl })
 
 select-kept : (d : Bool) (a : Attributes) (s : State) → Kept s (rules.selecting (causeBy d) a s .state)
-select-kept d a s =
-    let w = movedBy (s .window) (causeBy d) in
-    by-test (sameWindow w (s .window)) s (rules.still s) (rules.entered w a s) (same s) (record { mode = select-mode d (s .window); config = refl })
+select-kept d a s = through-door (causeBy d) a s (select-mode d)
 
 -- each item: what it does to set id, where it is no Set Features 13h of that set
 abbrev Mild : ℕ → Meaning → Type 0
@@ -145,7 +151,7 @@ mild : (id : ℕ) (i : Item) → configures id i ≡ false → Mild id (meaning 
 unfolding meaning
 mild id (reads named k) h = λ e a s. by-window (s .window) s _ _ _ (same s) (charge-kept Reads k a s) (same s)
 mild id (writes named k) h = λ e a s. by-window (s .window) s _ _ _ (same s) (charge-kept Writes k a s) (same s)
-mild id (excursion named) h = λ e a s. by-test (sameWindow (movedBy (s .window) Excursion) (s .window)) s _ _ (same s) (record { mode = excursion-mode (s .window); config = refl })
+mild id (excursion named) h = λ e a s. through-door Excursion a s excursion-mode
 mild id (tick t room) h = λ a s. by-window (s .window) s _ _ _ (same s) (charge-kept Time t a s) (record { mode = refl; config = refl })
 mild id (command bytes given room) h = command-mild id bytes given room h
 
@@ -245,7 +251,8 @@ config-stored c bytes given room is bytes′ given′ room′ k a h k′ q a′ 
     let l = later is (after c i) id t (left-there i id o m c r (x .there)) (keeps (length (c .sets)) i r ∙ has-id i id o m c r (x .there)) h in
     let d = done-is (command bytes′ given′ room′) (featureSet (commandIn bytes′)) (named GetConfig (commandIn bytes′) given′ room′)
     (command-is bytes′ given′ room′ GetConfig k′) (run c (i ∷ is)) (l .found) (rw q (l .there)) z′ in
-    let mode : modeNo (l .found .state) ≡ bit (enable C) = l .kept .mode ∙ ap modeNo s ∙ set-mode (enable C) (r .state .window) in
+    let mode : modeNo (l .found .state) ≡ bit (enable C)
+    = l .kept .mode ∙ ap modeNo s ∙ ap modeIn (leads (rules.causeOfMode (enable C)) (r .attributes) (r .state)) ∙ set-mode (enable C) (r .state .window) in
     let config : l .found .state .config ≡ configIn given = l .kept .config ∙ ap (λ (y : State). y .config) s in
     d ∙ rw (mode, config)
 
@@ -284,15 +291,8 @@ moved-window false D h = refl
 moved-window true N h = refl
 moved-window false N h = refl
 
-lands : (b : Bool) (e f : Effect) (n : ℕ) → (b ≡ true → windowNo (e .state .window) ≡ n) → windowNo (f .state .window) ≡ n → windowNo ((if b then e else f) .state .window) ≡ n
-lands true e f n p q = p refl
-lands false e f n p q = q
-
 selected-window : (d : Bool) (a : Attributes) (s : State) → refusedBy (s .window) (causeBy d) ≡ false → windowNo (rules.selecting (causeBy d) a s .state .window) ≡ if d then 1 else 2
-selected-window d a s h =
-    let w = movedBy (s .window) (causeBy d) in
-    let m = moved-window d (s .window) h in
-    lands (sameWindow w (s .window)) (rules.still s) (rules.entered w a s) (if d then 1 else 2) (λ t. sym (eqb-true (windowNo w) (windowNo (s .window)) t) ∙ m) m
+selected-window d a s h = ap windowNo (leads (causeBy d) a s) ∙ moved-window d (s .window) h
 
 asked-window :
     (c : Command) (given : List ℕ) (room : ℕ) (a : Attributes) (s : State) → refusalAt (named SetWindow c given room) a s ≡ 0

@@ -33,7 +33,7 @@ Rule = Command → List ℕ → Attributes → State → Effect
 
 -- 13h, with 512 bytes of data in
 abbrev pub storesConfig : Rule
-storesConfig c given a s = rules.configure (enable c) (configIn given) s
+storesConfig c given a s = rules.configure (enable c) (configIn given) a s
 
 -- 14h
 abbrev pub selectsWindow : Rule

@@ -25,6 +25,6 @@ ticked t room =
 unfoldable pub meaning : Item → Meaning
 meaning (reads id k) = The id (event (rules.readEvent k))
 meaning (writes id k) = The id (event (rules.writeEvent k))
-meaning (excursion id) = The id (event (λ a s. rules.excursionEvent s))
+meaning (excursion id) = The id (event rules.excursionEvent)
 meaning (tick t room) = Everybody (ticked t room)
 meaning (command bytes given room) = commandMeaning bytes given room

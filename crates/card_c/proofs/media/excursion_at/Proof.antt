@@ -13,9 +13,9 @@ excursion-at-spec =
     (tie.spec
     (λ c κs. search needs) (λ c κs. search needs)
     (λ c κs.
-    let l = c .before .before .before in
+    let l = c .before .before .before .before in
     let s = l .before .before .before in
-    (s .pre, l .load .ensures, stays (λ a s. excursionEvent s) (recordAt (s .args .region .now) (s .args .slot .0)) _ _ (l .load .ensures) (c .excursion-event .ensures) (excursion-stays)))
+    (s .pre, l .load .ensures, stays excursionEvent (recordAt (s .args .region .now) (s .args .slot .0)) _ _ (l .load .ensures) (c .excursion-event .ensures) excursion-stays))
     (λ c. search needs)
     (λ c.
     let p = c .before .before in
@@ -24,4 +24,4 @@ excursion-at-spec =
     let s = l .before .before .before in
     let b = s .args .region .now in
     let i = s .args .slot .0 in
-    p .store-effect .ensures ∙ ap (withRecord b i) (is-ruled (λ a s. excursionEvent s) (recordAt b i) _ _ (l .load .ensures) (e .excursion-event .ensures))))
+    p .store-effect .ensures ∙ ap (withRecord b i) (is-ruled excursionEvent (recordAt b i) _ _ (l .load .ensures) (e .excursion-event .ensures))))
