@@ -1,107 +1,26 @@
--- A row is legal exactly where its words are what docs/LAYOUT.md says. Which word holds how much of its field is said in one place,
--- `held-words`: all else goes by the words of a record.
+-- A row is legal exactly where its words are what docs/LAYOUT.md says.
 use mathlib.Core.Path.{_≡_, refl, sym, ap, _∙_}
 use mathlib.Core.Bool.{Bool, true, false, not, _&&_, _||_, and-true, and-false}
 use mathlib.Core.List.{List, [], _∷_}
-use Prim.Native.Nat.{ℕ, zero, suc, _%_, _^_, _≤_, _<_}
+use Prim.Native.Nat.{ℕ, zero, suc, _≤_}
 use native.Mathlib.Omega.{arith}
-use native.Mathlib.Nat.{mod-eq-of-lt}
-use borrow.Author.Tests.{leb-true, eqb-true, le-leb, le-ltb, lt-leb, eq-eqb, ne-eqb}
+use borrow.Author.Tests.{eqb-true, le-ltb, lt-leb, eq-eqb, ne-eqb}
 use lib.Dec.{leb, ltb, eqb}
-use lib.ListN.{length, getD, drop-of-length-le}
+use lib.ListN.{length, drop-of-length-le}
 use lib.Seq.{drop-cons}
 use Rattle.octets.specs.Choice.{if_then_else_}
-use Rattle.octets.proofs.JoinedTests.{and-left, and-right, both, together}
-use Rattle.record.specs.declared.Window.{Window}
-use Rattle.record.specs.declared.Window.the-variants.{Off, D, N}
-use Rattle.record.specs.declared.Events.{Events}
-use Rattle.record.specs.declared.Record.{Record}
-use Rattle.record.specs.Windows.{byWindow, windowNo}
-use Rattle.record.specs.Event.{bit, bitsOf, eventsOf, eventsIn, someEvent}
-use Rattle.record.specs.Legal.{legalRecord}
+use Rattle.octets.proofs.JoinedTests.{both, together}
+use Rattle.record.specs.Windows.{windowNo}
+use Rattle.record.specs.Event.{bit, bitsOf, eventsIn}
 use Rattle.record.specs.Parts.{idOf}
-use Rattle.record.proofs.EventBits.{events-back}
 use Rattle.table.specs.Layout.{rowWords, wordsOf, windowIn, recordOf}
 use Rattle.table.specs.Table.{sameWords, legalRow, legalAfter}
 use Rattle.table.specs.LegalWords.{word, staticsLegal, withinBits, zeroOutside, changingLegal, notesLegal, wordsLegal, LegalWords}
 use Rattle.table.proofs.SameWords.{same-self}
+use Rattle.table.proofs.HeldWords.{words-of-record, changing, held}
 use Rattle.table.proofs.Records.{row-of}
 
--- ---- the words of a record are legal exactly where the record is
-
-bits-within : (e : Events) → withinBits (bitsOf e) ≡ true
-bits-within e = eq-eqb _ _ (ap bitsOf (sym (events-back e)))
-
-changing-words :
-    (w : Window) (b : Bool) (r o t m reads writes time need : ℕ) → b ≡ true
-    → b && leb (windowNo w) 2
-    && zeroOutside (eqb (windowNo w) 1) (leb r reads) r
-    && zeroOutside (eqb (windowNo w) 1) (leb o writes) o
-    && zeroOutside (eqb (windowNo w) 1) (ltb t time) t
-    && zeroOutside (eqb (windowNo w) 2) (leb m need) m
-    ≡ byWindow w
-    (eqb r 0 && eqb o 0 && eqb t 0 && eqb m 0)
-    (leb r reads && leb o writes && ltb t time && eqb m 0)
-    (eqb r 0 && eqb o 0 && eqb t 0 && leb m need)
-changing-words Off b r o t m reads writes time need h = rw h
-changing-words D b r o t m reads writes time need h = rw h
-changing-words N b r o t m reads writes time need h = rw h
-
-some-of : (i o t x y : Bool) → not (eqb (bitsOf (eventsOf i o t x y)) 0) ≡ someEvent (eventsOf i o t x y)
-some-of true o t x y = rw (ne-eqb (bitsOf (eventsOf true o t x y)) 0 (λ z. omega arith))
-some-of false true t x y = rw (ne-eqb (bitsOf (eventsOf false true t x y)) 0 (λ z. omega arith))
-some-of false false true x y = rw (ne-eqb (bitsOf (eventsOf false false true x y)) 0 (λ z. omega arith))
-some-of false false false true y = rw (ne-eqb (bitsOf (eventsOf false false false true y)) 0 (λ z. omega arith))
-some-of false false false false true = refl
-some-of false false false false false = refl
-
-some-bits : (e : Events) → not (eqb (bitsOf e) 0) ≡ someEvent e
-some-bits e = some-of (e .reads) (e .writes) (e .time) (e .exceeded) (e .excursion)
-
-mark-words : (listed b : Bool) → eqb (bit listed) 0 || (eqb (bit listed) 1 && b) ≡ not listed || b
-mark-words true b = refl
-mark-words false b = refl
-
-words-of-record : (r : Record) → wordsLegal (wordsOf r) ≡ legalRecord r
-unfolding wordsOf
-words-of-record r =
-    let a = r .attributes in
-    let s = r .state in
-    rw (
-      changing-words (s .window) _ (s .reads) (s .writes) (s .time) (s .«n_time») _ _ _ _ (bits-within (s .config .enabled)),
-      bits-within (r .notes .events),
-      some-bits (r .notes .events),
-      mark-words (r .notes .listed) (someEvent (r .notes .events)),
-    )
-
--- ---- and a row whose words are legal is the words of its record
-
--- each word is no more than its field holds
-record Statics (a : List ℕ) : Type 0 where
-  id : word a 0 ≤ 65535
-  group : word a 1 ≤ 65535
-  random : word a 2 ≤ 4294967295
-  optimal : word a 3 ≤ 4294967295
-
-statics : (a : List ℕ) → staticsLegal a ≡ true → Statics a
-statics a h =
-    record {
-      id = search (and-left, and-right, leb-true) depth 16;
-      group = search (and-left, and-right, leb-true) depth 16;
-      random = search (and-left, and-right, leb-true) depth 16;
-      optimal = search (and-left, and-right, leb-true) depth 16;
-    }
-
-record Changing (a : List ℕ) : Type 0 where
-  enev : withinBits (word a 13) ≡ true
-  window : word a 17 ≤ 2
-
-changing : (a : List ℕ) → changingLegal a ≡ true → Changing a
-changing a h =
-    record {
-      window = search (and-left, and-right, leb-true) depth 16;
-      enev = search (and-left, and-right) depth 16;
-    }
+-- ---- a row whose words are legal is the words of its record
 
 false-true : false ≡ true → ⊥
 false-true h = let z : _≡_ {A = ℕ} 0 1 = ap bit h in omega arith
@@ -161,17 +80,13 @@ module _ (a : List ℕ) (long : length a ≡ rowWords) where
       let p = both (staticsLegal a && changingLegal a) (notesLegal a) h in
       let q = both (staticsLegal a) (changingLegal a) (p .0) in
       let n = both (withinBits (word a 22)) _ (p .1) in
-      let s = statics a (q .0) in
+      let f = held a h in
       let c = changing a (q .1) in
-      let i : word a 0 % 2 ^ 16 ≡ word a 0 = mod-eq-of-lt (omega (arith, s .id)) in
-      let g : word a 1 % 2 ^ 16 ≡ word a 1 = mod-eq-of-lt (omega (arith, s .group)) in
-      let r : word a 2 % 2 ^ 32 ≡ word a 2 = mod-eq-of-lt (omega (arith, s .random)) in
-      let o : word a 3 % 2 ^ 32 ≡ word a 3 = mod-eq-of-lt (omega (arith, s .optimal)) in
       let w = window-held (word a 17) (c .window) in
       let l = bit-held (word a 23) (mark-small _ _ (n .1)) in
       let v : bitsOf (eventsIn (word a 13)) ≡ word a 13 = sym (eqb-true _ _ (c .enev)) in
       let e : bitsOf (eventsIn (word a 22)) ≡ word a 22 = sym (eqb-true _ _ (n .0)) in
-      rw (i, g, r, o, w, v, e, l) shape
+      rw (f .id, f .group, f .random, f .optimal, f .«reads_typical», f .«writes_typical», f .«time_maximum», f .high, f .low, f .reads, f .writes, f .time, f .recovery, w, v, e, l) shape
 
   -- ---- so the two are the same
 

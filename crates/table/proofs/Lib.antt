@@ -1,4 +1,5 @@
 pub mod SameWords
+pub mod HeldWords
 pub mod Records
 pub mod Slots
 pub mod LegalTables

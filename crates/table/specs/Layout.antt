@@ -10,7 +10,7 @@ use Rattle.record.specs.declared.Attributes.{Attributes}
 use Rattle.record.specs.declared.State.{State}
 use Rattle.record.specs.declared.Notes.{Notes}
 use Rattle.record.specs.declared.Record.{Record}
-use Rattle.record.specs.Parts.{stateOf}
+use Rattle.record.specs.Parts.{configOf, spends, recovers, stateOf}
 use Rattle.record.specs.Windows.{windowNo}
 use Rattle.record.specs.Event.{bit, bitsOf, eventsIn}
 
@@ -46,10 +46,10 @@ fieldWords r =
     ∷ r .state .config .thresholds .writes
     ∷ r .state .config .thresholds .time
     ∷ windowNo (r .state .window)
-    ∷ r .state .reads
-    ∷ r .state .writes
-    ∷ r .state .time
-    ∷ r .state .«n_time»
+    ∷ r .state .spent .reads
+    ∷ r .state .spent .writes
+    ∷ r .state .spent .time
+    ∷ r .state .recovery .time
     ∷ bitsOf (r .notes .events)
     ∷ bit (r .notes .listed)
     ∷ []
@@ -71,22 +71,20 @@ attributesAt ws =
       «optimal_write_size» = getD ws 3 0 % 2 ^ 32;
       total = record { low = getD ws 4 0; high = getD ws 5 0 };
       unallocated = record { low = getD ws 6 0; high = getD ws 7 0 };
-      «reads_typical» = getD ws 8 0;
-      «writes_typical» = getD ws 9 0;
-      «time_maximum» = getD ws 10 0;
-      «minimum_high» = getD ws 11 0;
-      «minimum_low» = getD ws 12 0;
+      «reads_typical» = getD ws 8 0 % 2 ^ 32;
+      «writes_typical» = getD ws 9 0 % 2 ^ 32;
+      «time_maximum» = getD ws 10 0 % 2 ^ 32;
+      «minimum_high» = getD ws 11 0 % 2 ^ 32;
+      «minimum_low» = getD ws 12 0 % 2 ^ 32;
     }
 
 abbrev pub stateAt : List ℕ → State
 stateAt ws =
     stateOf
     (windowIn (getD ws 17 0))
-    (record {
-      enabled = eventsIn (getD ws 13 0);
-      thresholds = record { reads = getD ws 14 0; writes = getD ws 15 0; time = getD ws 16 0 };
-    })
-    (getD ws 18 0) (getD ws 19 0) (getD ws 20 0) (getD ws 21 0)
+    (configOf (eventsIn (getD ws 13 0)) (getD ws 14 0) (getD ws 15 0) (getD ws 16 0))
+    (spends (getD ws 18 0 % 2 ^ 32) (getD ws 19 0 % 2 ^ 32) (getD ws 20 0 % 2 ^ 32))
+    (recovers (getD ws 21 0 % 2 ^ 32))
 
 abbrev pub notesAt : List ℕ → Notes
 notesAt ws = record { events = eventsIn (getD ws 22 0); listed = eqb (getD ws 23 0) 1 }

@@ -3,19 +3,22 @@ ghost use mathlib.Core.Path.{_≡_};
 ghost use Rattle.record.specs.Parts.{idOf};
 ghost use Rattle.table.specs.Layout.{fieldWords, wordsOf, windowIn, attributesAt, stateAt, notesAt, recordOf};
 use octets::casts::from_size;
+use octets::casts::from_u32;
 use record::Attributes;
 use record::Capacity;
-use record::Config;
 use record::Group;
 use record::Notes;
 use record::Record;
 use record::SetId;
 use record::State;
-use record::Thresholds;
 use record::Window;
 use record::event::bit_of;
 use record::event::bits_of;
 use record::event::events_in;
+use record::parts::config_of;
+use record::parts::recovered;
+use record::parts::spent;
+use record::parts::state_of;
 use record::windows::window_no;
 
 // The header: the number of this layout, which every change of it raises, then the number of sets.
@@ -44,6 +47,15 @@ fn field_words(r: Record) -> [u64; ROW]
     let enev = bits_of(enabled);
     let bits = bits_of(events);
     let listed = bit_of(r.notes.listed);
+    let reads_typical = from_u32(r.attributes.reads_typical);
+    let writes_typical = from_u32(r.attributes.writes_typical);
+    let time_maximum = from_u32(r.attributes.time_maximum);
+    let minimum_high = from_u32(r.attributes.minimum_high);
+    let minimum_low = from_u32(r.attributes.minimum_low);
+    let reads = from_u32(r.state.spent.reads);
+    let writes = from_u32(r.state.spent.writes);
+    let time = from_u32(r.state.spent.time);
+    let n_time = from_u32(r.state.recovery.time);
     [
         r.attributes.id.0 as u64,
         r.attributes.group.0 as u64,
@@ -53,20 +65,20 @@ fn field_words(r: Record) -> [u64; ROW]
         r.attributes.total.high,
         r.attributes.unallocated.low,
         r.attributes.unallocated.high,
-        r.attributes.reads_typical,
-        r.attributes.writes_typical,
-        r.attributes.time_maximum,
-        r.attributes.minimum_high,
-        r.attributes.minimum_low,
+        reads_typical,
+        writes_typical,
+        time_maximum,
+        minimum_high,
+        minimum_low,
         enev,
         r.state.config.thresholds.reads,
         r.state.config.thresholds.writes,
         r.state.config.thresholds.time,
         window,
-        r.state.reads,
-        r.state.writes,
-        r.state.time,
-        r.state.n_time,
+        reads,
+        writes,
+        time,
+        n_time,
         bits,
         listed,
     ]
@@ -100,11 +112,11 @@ fn attributes_at(a: [u64; ROW]) -> Attributes
             low: a[6],
             high: a[7],
         },
-        reads_typical: a[8],
-        writes_typical: a[9],
-        time_maximum: a[10],
-        minimum_high: a[11],
-        minimum_low: a[12],
+        reads_typical: (a[8] % 4294967296) as u32,
+        writes_typical: (a[9] % 4294967296) as u32,
+        time_maximum: (a[10] % 4294967296) as u32,
+        minimum_high: (a[11] % 4294967296) as u32,
+        minimum_low: (a[12] % 4294967296) as u32,
     }
 }
 
@@ -113,23 +125,14 @@ fn state_at(a: [u64; ROW]) -> State
 {
     let window = window_in(a[17]);
     let enabled = events_in(a[13]);
-    let thresholds = Thresholds {
-        reads: a[14],
-        writes: a[15],
-        time: a[16],
-    };
-    let config = Config {
-        enabled: enabled,
-        thresholds: thresholds,
-    };
-    State {
-        window: window,
-        config: config,
-        reads: a[18],
-        writes: a[19],
-        time: a[20],
-        n_time: a[21],
-    }
+    let config = config_of(enabled, a[14], a[15], a[16]);
+    let spent = spent(
+        (a[18] % 4294967296) as u32,
+        (a[19] % 4294967296) as u32,
+        (a[20] % 4294967296) as u32,
+    );
+    let recovery = recovered((a[21] % 4294967296) as u32);
+    state_of(window, config, spent, recovery)
 }
 
 fn notes_at(a: [u64; ROW]) -> Notes

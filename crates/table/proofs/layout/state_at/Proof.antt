@@ -7,6 +7,7 @@ state-at-spec =
     tie.close
     (tie.spec
     (λ c. search needs) (λ c κs. search needs) (λ c. search needs) (λ c κs. search needs) (λ c. search needs)
-    (λ c. search needs) (λ c. search needs) (λ c. search needs) (λ c. search needs) (λ c. search needs)
-    (λ c. search needs)
-    (λ c. simp (c .events-in .ensures, c .before .window-in .ensures)))
+    (λ c. search needs) (λ c. search needs) (λ c κs. search needs) (λ c. search needs) (λ c. search needs)
+    (λ c. search needs) (λ c. search needs) (λ c. search needs) (λ c. search needs) (λ c κs. search needs)
+    (λ c. search needs) (λ c. search needs) (λ c κs. search needs) (λ c κs. search needs)
+    (λ c. simp (c .state-of .ensures, c .before .recovered .ensures, c .before .before .spent .ensures, c .before .before .before .config-of .ensures, c .before .before .before .before .events-in .ensures, c .before .before .before .before .before .window-in .ensures)))
