@@ -1,15 +1,15 @@
 -- What is laid out is read back.
 use mathlib.Core.Path.{_≡_, refl, sym, ap, _∙_}
-use mathlib.Core.Bool.{Bool, true, false}
+use mathlib.Core.Bool.{Bool, true, false, _&&_}
 use mathlib.Core.List.{List}
-use Prim.Native.Nat.{ℕ, _+_, _-_, _^_, _≤_, _<_}
-use native.Mathlib.Nat.{zero-add}
+use Prim.Native.Nat.{ℕ, _+_, _-_, _%_, _^_, _≤_, _<_}
+use native.Mathlib.Nat.{zero-add, mod-eq-of-lt, mod-lt}
 use native.Mathlib.Omega.{arith}
 use borrow.Author.Needs.{needs}
-use lib.Dec.{eqb}
+use lib.Dec.{eqb, ltb}
 use lib.ListN.{length, getD}
 use lib.Seq.{sets}
-use borrow.Author.Tests.{leb-true}
+use borrow.Author.Tests.{leb-true, lt-ltb}
 use Rattle.octets.specs.Choice.{if_then_else_}
 use Rattle.octets.specs.Octets.{part}
 use Rattle.octets.specs.declared.Place.{Place}
@@ -27,14 +27,15 @@ use Rattle.record.specs.declared.Quantity.{Quantity}
 use Rattle.record.specs.declared.Quantity.the-variants.{Reads, Writes, Time}
 use Rattle.record.specs.declared.State.{State}
 use Rattle.record.specs.declared.Record.{Record}
-use Rattle.record.specs.Quantities.{limit, spent, need}
+use Rattle.record.specs.Quantities.{limit, spentOf, need}
+use Rattle.record.specs.Parts.{configOf}
 use Rattle.record.specs.Windows.{byWindow, windowNo}
 use Rattle.record.specs.Legal.{typicalMaximum, dayMs, legalAttributes}
 use Rattle.record.specs.Event.{bit, bitsOf, eventsIn, estimate}
 use Rattle.record.proofs.EventBits.{events-back}
 use Rattle.octets.specs.Numbers.{numberAt}
 use Rattle.pages.specs.Capacities.{lowHalf, highHalf, capacityIn}
-use Rattle.pages.specs.Bodies.{bodySize, bodyId, bodyGroup, bodyRandomRead, bodyOptimalWrite, bodyTotal, bodyUnallocated, bodyReads, bodyWrites, bodyTime, bodyHigh, bodyLow, bodyFields, body, attributesIn, Sized}
+use Rattle.pages.specs.Bodies.{bodySize, bodyId, bodyGroup, bodyRandomRead, bodyOptimalWrite, bodyTotal, bodyUnallocated, bodyReads, bodyWrites, bodyTime, bodyHigh, bodyLow, bodyFields, body, limitIn, limitsFit, attributesIn, Sized}
 use Rattle.pages.specs.Latency.{latencySize, latencyFields, latencyPage}
 use Rattle.pages.specs.Features.{featureSize, configReads, configWrites, configTime, configFields, configPage, configIn, Words}
 use Rattle.octets.proofs.Pages.{length-place}
@@ -52,11 +53,11 @@ attributesOf l =
       «optimal_write_size» = getD l 3 0;
       total = record { low = getD l 4 0; high = getD l 5 0 };
       unallocated = record { low = getD l 6 0; high = getD l 7 0 };
-      «reads_typical» = getD l 8 0;
-      «writes_typical» = getD l 9 0;
-      «time_maximum» = getD l 10 0;
-      «minimum_high» = getD l 11 0;
-      «minimum_low» = getD l 12 0;
+      «reads_typical» = getD l 8 0 % 2 ^ 32;
+      «writes_typical» = getD l 9 0 % 2 ^ 32;
+      «time_maximum» = getD l 10 0 % 2 ^ 32;
+      «minimum_high» = getD l 11 0 % 2 ^ 32;
+      «minimum_low» = getD l 12 0 % 2 ^ 32;
     }
 
 -- what is read number by number
@@ -65,8 +66,8 @@ module _ (bytes : List ℕ) (at id group random optimal : ℕ) (total unallocate
       id ≡ readAt bytes at bodyId → group ≡ readAt bytes at bodyGroup
       → random ≡ readAt bytes at bodyRandomRead → optimal ≡ readAt bytes at bodyOptimalWrite
       → total ≡ capacityIn bytes at bodyTotal → unallocated ≡ capacityIn bytes at bodyUnallocated
-      → reads ≡ readAt bytes at bodyReads → writes ≡ readAt bytes at bodyWrites → time ≡ readAt bytes at bodyTime
-      → high ≡ readAt bytes at bodyHigh → low ≡ readAt bytes at bodyLow
+      → reads ≡ limitIn bytes at bodyReads → writes ≡ limitIn bytes at bodyWrites → time ≡ limitIn bytes at bodyTime
+      → high ≡ limitIn bytes at bodyHigh → low ≡ limitIn bytes at bodyLow
       → record {
         id = record { 0 = id };
         group = record { 0 = group };
@@ -89,7 +90,32 @@ sized-fit a s = search needs
 -- a body's attributes are those that it was made of
 pub body-back : (a : Attributes) → Sized a → attributesIn (body a) 0 ≡ a
 unfolding body
-body-back a s = ap attributesOf (read-back bodySize (bodyFields a) refl (sized-fit a s))
+body-back a s =
+    rw (
+      mod-eq-of-lt (s .«reads_typical»),
+      mod-eq-of-lt (s .«writes_typical»),
+      mod-eq-of-lt (s .«time_maximum»),
+      mod-eq-of-lt (s .«minimum_high»),
+      mod-eq-of-lt (s .«minimum_low»),
+    ) at
+    (ap attributesOf (read-back bodySize (bodyFields a) refl (sized-fit a s)))
+
+-- the test of a body's limits by the list of its numbers
+abbrev fitsOf : List ℕ → Bool
+fitsOf l = ltb (getD l 8 0) (2 ^ 32) && ltb (getD l 9 0) (2 ^ 32) && ltb (getD l 10 0) (2 ^ 32) && ltb (getD l 11 0) (2 ^ 32) && ltb (getD l 12 0) (2 ^ 32)
+
+-- and four bytes hold each of its limits
+pub body-fits : (a : Attributes) → Sized a → limitsFit (body a) 0 ≡ true
+unfolding body
+body-fits a s =
+    rw (
+      lt-ltb _ _ (s .«reads_typical»),
+      lt-ltb _ _ (s .«writes_typical»),
+      lt-ltb _ _ (s .«time_maximum»),
+      lt-ltb _ _ (s .«minimum_high»),
+      lt-ltb _ _ (s .«minimum_low»),
+    ) at
+    (ap fitsOf (read-back bodySize (bodyFields a) refl (sized-fit a s)))
 
 -- attributes are read from a body's bytes alone
 module _ (l : List ℕ) (at : ℕ) where
@@ -107,6 +133,16 @@ module _ (l : List ℕ) (at : ℕ) where
         there (highHalf bodyTotal) (omega arith),
         there (lowHalf bodyUnallocated) (omega arith),
         there (highHalf bodyUnallocated) (omega arith),
+        there bodyReads (omega arith),
+        there bodyWrites (omega arith),
+        there bodyTime (omega arith),
+        there bodyHigh (omega arith),
+        there bodyLow (omega arith),
+      )
+
+  pub limits-alone : limitsFit (part l at bodySize) 0 ≡ limitsFit l at
+  limits-alone =
+      rw (
         there bodyReads (omega arith),
         there bodyWrites (omega arith),
         there bodyTime (omega arith),
@@ -148,18 +184,18 @@ module _ (bytes : List ℕ) (each : (i : ℕ) → getD bytes i 0 < 256) (at : �
         «total_high» = fits (highHalf bodyTotal) (omega arith);
         «unallocated_low» = fits (lowHalf bodyUnallocated) (omega arith);
         «unallocated_high» = fits (highHalf bodyUnallocated) (omega arith);
-        «reads_typical» = fits bodyReads (omega arith);
-        «writes_typical» = fits bodyWrites (omega arith);
-        «time_maximum» = fits bodyTime (omega arith);
-        «minimum_high» = fits bodyHigh (omega arith);
-        «minimum_low» = fits bodyLow (omega arith);
+        «reads_typical» = mod-lt (readAt bytes at bodyReads) (omega arith);
+        «writes_typical» = mod-lt (readAt bytes at bodyWrites) (omega arith);
+        «time_maximum» = mod-lt (readAt bytes at bodyTime) (omega arith);
+        «minimum_high» = mod-lt (readAt bytes at bodyHigh) (omega arith);
+        «minimum_low» = mod-lt (readAt bytes at bodyLow) (omega arith);
       }
 
 -- ---- the data of feature 13h
 
 -- a configuration by the list of its page's numbers
-abbrev configOf : List ℕ → Config
-configOf l = record { enabled = eventsIn (getD l 0 0); thresholds = record { reads = getD l 1 0; writes = getD l 2 0; time = getD l 3 0 } }
+abbrev configBy : List ℕ → Config
+configBy l = configOf (eventsIn (getD l 0 0)) (getD l 1 0) (getD l 2 0) (getD l 3 0)
 
 bit-small : (b : Bool) → bit b ≤ 1
 bit-small true = omega arith
@@ -175,7 +211,7 @@ pub config-back : (c : Config) → Words (c .thresholds) → configIn (configPag
 unfolding configPage
 config-back c w =
     rw (events-back (c .enabled)) at
-    (ap configOf (read-back featureSize (configFields c) refl (bits-small (c .enabled), (w .reads, (w .writes, (w .time, tt))))))
+    (ap configBy (read-back featureSize (configFields c) refl (bits-small (c .enabled), (w .reads, (w .writes, (w .time, tt))))))
 
 -- what is read from bytes fits
 pub read-words : (bytes : List ℕ) → ((i : ℕ) → getD bytes i 0 < 256) → featureSize ≤ length bytes → Words (configIn bytes .thresholds)
@@ -201,7 +237,7 @@ left-below N most n false = omega arith
 
 -- an estimate is at most the quantity's limit
 pub estimate-below : (q : Quantity) (a : Attributes) (s : State) → estimate q a s ≤ limit q a
-estimate-below q a s = left-below (s .window) (limit q a) (spent q s) (eqb (s .«n_time») (need a))
+estimate-below q a s = left-below (s .window) (limit q a) (spentOf q (s .spent)) (eqb (s .recovery .time) (need a))
 
 -- what legality says of the statics on the page
 record Limits (a : Attributes) : Type 0 where

@@ -1,6 +1,8 @@
 -- 01, "One set's record": a set's attributes as the 84 bytes that set-up takes.
+use mathlib.Core.Bool.{Bool, _&&_}
 use mathlib.Core.List.{List, [], _∷_, _++_}
-use Prim.Native.Nat.{ℕ, _^_, _<_}
+use Prim.Native.Nat.{ℕ, _%_, _^_, _<_}
+use lib.Dec.{ltb}
 use Rattle.octets.specs.declared.Place.{Place}
 use Rattle.octets.specs.Pages.{Field, span, fieldsAt, readAt, place}
 use Rattle.record.specs.declared.Attributes.{Attributes}
@@ -71,6 +73,24 @@ body a = place bodySize (bodyFields a)
 
 -- ---- a body read
 
+-- a limit takes eight bytes and is a number of four
+abbrev pub limitIn : List ℕ → ℕ → Place → ℕ
+limitIn bytes at p = readAt bytes at p % 2 ^ 32
+
+-- "reads typical and writes typical, each 1..4,294,967,295; time maximum, minimum high and minimum low, 1..86,400,000 ms
+-- each, .. These last five take 8 bytes each.": a number that four bytes do not hold is in none of the ranges, so that set-up
+-- refuses the body; what `attributesIn` reads of it is then looked at by nobody
+abbrev pub limitFits : List ℕ → ℕ → Place → Bool
+limitFits bytes at p = ltb (readAt bytes at p) (2 ^ 32)
+
+abbrev pub limitsFit : List ℕ → ℕ → Bool
+limitsFit bytes at =
+    limitFits bytes at bodyReads
+    && limitFits bytes at bodyWrites
+    && limitFits bytes at bodyTime
+    && limitFits bytes at bodyHigh
+    && limitFits bytes at bodyLow
+
 -- the attributes of the body that starts at a place
 abbrev pub attributesIn : List ℕ → ℕ → Attributes
 attributesIn bytes at =
@@ -81,11 +101,11 @@ attributesIn bytes at =
       «optimal_write_size» = readAt bytes at bodyOptimalWrite;
       total = capacityIn bytes at bodyTotal;
       unallocated = capacityIn bytes at bodyUnallocated;
-      «reads_typical» = readAt bytes at bodyReads;
-      «writes_typical» = readAt bytes at bodyWrites;
-      «time_maximum» = readAt bytes at bodyTime;
-      «minimum_high» = readAt bytes at bodyHigh;
-      «minimum_low» = readAt bytes at bodyLow;
+      «reads_typical» = limitIn bytes at bodyReads;
+      «writes_typical» = limitIn bytes at bodyWrites;
+      «time_maximum» = limitIn bytes at bodyTime;
+      «minimum_high» = limitIn bytes at bodyHigh;
+      «minimum_low» = limitIn bytes at bodyLow;
     }
 
 -- the attributes whose numbers fit their widths: those of every record that code holds
@@ -98,11 +118,11 @@ pub record Sized (a : Attributes) : Type 0 where
   pub «total_high» : a .total .high < 2 ^ 64
   pub «unallocated_low» : a .unallocated .low < 2 ^ 64
   pub «unallocated_high» : a .unallocated .high < 2 ^ 64
-  pub «reads_typical» : a .«reads_typical» < 2 ^ 64
-  pub «writes_typical» : a .«writes_typical» < 2 ^ 64
-  pub «time_maximum» : a .«time_maximum» < 2 ^ 64
-  pub «minimum_high» : a .«minimum_high» < 2 ^ 64
-  pub «minimum_low» : a .«minimum_low» < 2 ^ 64
+  pub «reads_typical» : a .«reads_typical» < 2 ^ 32
+  pub «writes_typical» : a .«writes_typical» < 2 ^ 32
+  pub «time_maximum» : a .«time_maximum» < 2 ^ 32
+  pub «minimum_high» : a .«minimum_high» < 2 ^ 32
+  pub «minimum_low» : a .«minimum_low» < 2 ^ 32
 
 abbrev pub AllSized : List Attributes → Type 0
 AllSized [] = Unit

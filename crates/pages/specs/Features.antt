@@ -5,6 +5,7 @@ use Rattle.octets.specs.declared.Place.{Place}
 use Rattle.octets.specs.Pages.{Field, span, fieldsAt, readAt, place}
 use Rattle.record.specs.declared.Thresholds.{Thresholds}
 use Rattle.record.specs.declared.Config.{Config}
+use Rattle.record.specs.Parts.{configOf}
 use Rattle.record.specs.Event.{bitsOf, eventsIn}
 
 -- "512 data bytes"
@@ -42,14 +43,7 @@ configPage c = place featureSize (configFields c)
 -- what the data says: "ENEV (masked with C007h) and the thresholds"
 abbrev pub configIn : List ℕ → Config
 configIn bytes =
-    record {
-      enabled = eventsIn (readAt bytes 0 configEnabled);
-      thresholds = record {
-        reads = readAt bytes 0 configReads;
-        writes = readAt bytes 0 configWrites;
-        time = readAt bytes 0 configTime;
-      };
-    }
+    configOf (eventsIn (readAt bytes 0 configEnabled)) (readAt bytes 0 configReads) (readAt bytes 0 configWrites) (readAt bytes 0 configTime)
 
 -- "three 64-bit thresholds": those of every record that code holds
 pub record Words (t : Thresholds) : Type 0 where

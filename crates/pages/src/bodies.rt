@@ -4,10 +4,11 @@ ghost use Prim.Native.Nat.{_+_, _≤_};
 ghost use lib.ListN.{length};
 ghost use Rattle.octets.specs.Pages.{fieldsAt, puts};
 ghost use Rattle.pages.specs.Capacities.{namesOf, limitsOf};
-ghost use Rattle.pages.specs.Bodies.{bodySize, bodyNames, bodyLimits, bodyFields, body, attributesIn};
+ghost use Rattle.pages.specs.Bodies.{bodySize, bodyNames, bodyLimits, bodyFields, body, limitIn, limitFits, limitsFit, attributesIn};
 use crate::capacities::capacity_in;
 use crate::capacities::put_capacity;
 use octets::Place;
+use octets::casts::from_u32;
 use octets::numbers::short;
 use octets::numbers::word;
 use octets::numbers::word_in;
@@ -40,6 +41,33 @@ const HIGH: Place = Place { at: 68, width: 8 };
 
 const LOW: Place = Place { at: 76, width: 8 };
 
+// A limit takes eight bytes and is a number of four: what the lower four say, and whether they say it all.
+fn limit_in(bytes: &[u8], at: usize, p: Place) -> u32
+    requires { ⌜ (p .width ≡ 8) × (at + p .at + 8 ≤ length (now bytes)) ⌝ }
+    ensures { λ r. ⌜ r ≡ limitIn (now (bytes .entry)) at p ⌝ }
+{
+    (word_in(bytes, at, p) % 4294967296) as u32
+}
+
+fn limit_fits(bytes: &[u8], at: usize, p: Place) -> bool
+    requires { ⌜ (p .width ≡ 8) × (at + p .at + 8 ≤ length (now bytes)) ⌝ }
+    ensures { λ r. ⌜ r ≡ limitFits (now (bytes .entry)) at p ⌝ }
+{
+    word_in(bytes, at, p) < 4294967296
+}
+
+pub fn limits_fit(bytes: &[u8], at: usize) -> bool
+    requires { ⌜ at + bodySize ≤ length (now bytes) ⌝ }
+    ensures { λ r. ⌜ r ≡ limitsFit (now (bytes .entry)) at ⌝ }
+{
+    let reads = limit_fits(bytes, at, READS);
+    let writes = limit_fits(bytes, at, WRITES);
+    let time = limit_fits(bytes, at, TIME);
+    let high = limit_fits(bytes, at, HIGH);
+    let low = limit_fits(bytes, at, LOW);
+    reads & writes & time & high & low
+}
+
 pub fn attributes_in(bytes: &[u8], at: usize) -> Attributes
     requires { ⌜ at + bodySize ≤ length (now bytes) ⌝ }
     ensures { λ r. ⌜ r ≡ attributesIn (now (bytes .entry)) at ⌝ }
@@ -50,11 +78,11 @@ pub fn attributes_in(bytes: &[u8], at: usize) -> Attributes
     let optimal_write_size = word(bytes, at + OPTIMAL_WRITE.at);
     let total = capacity_in(bytes, at, TOTAL);
     let unallocated = capacity_in(bytes, at, UNALLOCATED);
-    let reads_typical = word_in(bytes, at, READS);
-    let writes_typical = word_in(bytes, at, WRITES);
-    let time_maximum = word_in(bytes, at, TIME);
-    let minimum_high = word_in(bytes, at, HIGH);
-    let minimum_low = word_in(bytes, at, LOW);
+    let reads_typical = limit_in(bytes, at, READS);
+    let writes_typical = limit_in(bytes, at, WRITES);
+    let time_maximum = limit_in(bytes, at, TIME);
+    let minimum_high = limit_in(bytes, at, HIGH);
+    let minimum_low = limit_in(bytes, at, LOW);
     Attributes {
         id: SetId(id),
         group: Group(group),
@@ -88,11 +116,11 @@ fn put_limits(page: &mut [u8], a: Attributes)
     requires { ⌜ bodySize ≤ length (now page) ⌝ }
     ensures { λ _. ⌜ now (page .exit) ≡ puts (now (page .entry)) (fieldsAt bodyLimits (limitsOf a)) ⌝ }
 {
-    put_at(page, 0, READS, a.reads_typical);
-    put_at(page, 0, WRITES, a.writes_typical);
-    put_at(page, 0, TIME, a.time_maximum);
-    put_at(page, 0, HIGH, a.minimum_high);
-    put_at(page, 0, LOW, a.minimum_low);
+    put_at(page, 0, READS, from_u32(a.reads_typical));
+    put_at(page, 0, WRITES, from_u32(a.writes_typical));
+    put_at(page, 0, TIME, from_u32(a.time_maximum));
+    put_at(page, 0, HIGH, from_u32(a.minimum_high));
+    put_at(page, 0, LOW, from_u32(a.minimum_low));
 }
 
 fn put_body(page: &mut [u8], a: Attributes)

@@ -9,9 +9,9 @@ use octets::Place;
 use octets::numbers::word_in;
 use octets::put_at;
 use record::Config;
-use record::Thresholds;
 use record::event::bits_of;
 use record::event::events_in;
+use record::parts::config_of;
 
 pub const FEATURE_SIZE: usize = 512;
 
@@ -61,12 +61,5 @@ pub fn config_in(bytes: &[u8]) -> Config
     let reads = word_in(bytes, 0, READS);
     let writes = word_in(bytes, 0, WRITES);
     let time = word_in(bytes, 0, TIME);
-    Config {
-        enabled: enabled,
-        thresholds: Thresholds {
-            reads: reads,
-            writes: writes,
-            time: time,
-        },
-    }
+    config_of(enabled, reads, writes, time)
 }

@@ -8,6 +8,7 @@ ghost use Rattle.pages.specs.Capacities.{limitsOf};
 ghost use Rattle.pages.specs.Latency.{latencySize, latencyLimits, latencyEstimates, estimatesOf, latencyFields, latencyPage};
 use octets::Place;
 use octets::casts::from_size;
+use octets::casts::from_u32;
 use octets::put_at;
 use record::Attributes;
 use record::Quantity;
@@ -43,11 +44,11 @@ fn put_limits(page: &mut [u8], a: Attributes)
     requires { ⌜ latencySize ≤ length (now page) ⌝ }
     ensures { λ _. ⌜ now (page .exit) ≡ puts (now (page .entry)) (fieldsAt latencyLimits (limitsOf a)) ⌝ }
 {
-    put_at(page, 0, READS, a.reads_typical);
-    put_at(page, 0, WRITES, a.writes_typical);
-    put_at(page, 0, TIME, a.time_maximum);
-    put_at(page, 0, HIGH, a.minimum_high);
-    put_at(page, 0, LOW, a.minimum_low);
+    put_at(page, 0, READS, from_u32(a.reads_typical));
+    put_at(page, 0, WRITES, from_u32(a.writes_typical));
+    put_at(page, 0, TIME, from_u32(a.time_maximum));
+    put_at(page, 0, HIGH, from_u32(a.minimum_high));
+    put_at(page, 0, LOW, from_u32(a.minimum_low));
 }
 
 fn put_estimates(page: &mut [u8], a: Attributes, s: State)

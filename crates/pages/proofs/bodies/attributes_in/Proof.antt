@@ -25,4 +25,4 @@ attributes-in-spec =
     let s = i .before .before .before in
     numbers-read (s .args .bytes .now) (s .args .at) _ _ _ _ _ _ _ _ _ _ _
     (i .short .ensures) (g .short2 .ensures) (r .word .ensures) (o .word2 .ensures) (t .capacity-in .ensures) (u .capacity-in2 .ensures)
-    (w1 .word-in .ensures) (w2 .word-in2 .ensures) (w3 .word-in3 .ensures) (w4 .word-in4 .ensures) (c .word-in5 .ensures)))
+    (w1 .limit-in .ensures) (w2 .limit-in2 .ensures) (w3 .limit-in3 .ensures) (w4 .limit-in4 .ensures) (c .limit-in5 .ensures)))
