@@ -2,6 +2,7 @@
 use mathlib.Core.Path.{_≡_}
 use mathlib.Core.Bool.{true}
 use Prim.Native.Nat.{ℕ}
+use lib.Dec.{eqb}
 use Rattle.octets.specs.Choice.{if_then_else_}
 use Rattle.replies.specs.Numbers.{badTable}
 use Rattle.record.specs.declared.Record.{Record}
@@ -12,13 +13,16 @@ use Rattle.steps.specs.Items.{itemOf}
 use Rattle.steps.specs.Card.{ruled}
 use Rattle.by_reference.specs.declared.records.Charged.{Charged}
 
--- the record that the step makes of it where an event names it, and the status number; 07C3h for one that is not legal, which stays
--- as it is
+-- 07C3h for a record that is not legal
+abbrev pub lentStatus : Record → ℕ
+lentStatus r = if legalRecord r then 0 else badTable
+
+-- where the status is 0 the record that the step makes of it where an event names it, and else the record as it is
+abbrev pub lentAfter : ℕ → Media → Record → Record
+lentAfter status m r = if eqb status 0 then ruled (itemOf (idOf r) m) r else r
+
 abbrev pub charged : Media → Record → Charged
-charged m r =
-    if legalRecord r
-    then record { «record» = ruled (itemOf (idOf r) m) r; status = 0 }
-    else record { «record» = r; status = badTable }
+charged m r = record { «record» = lentAfter (lentStatus r) m r; status = lentStatus r }
 
 -- what a charge in place promises: the record that it leaves, and the number that it answers
 pub record ChargedInPlace (m : Media) (before after : Record) (number : ℕ) : Type 0 where

@@ -1,6 +1,6 @@
 // The media layer charges one lent record in place.
 ghost use mathlib.Core.Path.{_≡_};
-ghost use Rattle.by_reference.specs.Records.{charged, ChargedInPlace};
+ghost use Rattle.by_reference.specs.Records.{lentStatus, lentAfter, ChargedInPlace};
 use by_value::media::after_event;
 use record::Record;
 use record::legal::record_legal;
@@ -14,28 +14,27 @@ pub struct Charged {
     pub status: u16,
 }
 
-// The rule, by value.
-fn charge_rule(r: Record, m: Media) -> Charged
-    ensures { λ c. ⌜ c ≡ charged m r ⌝ }
+fn status_of(r: Record) -> u16
+    ensures { λ n. ⌜ n ≡ lentStatus r ⌝ }
 {
-    if record_legal(r) {
-        let after = after_event(r, m);
-        Charged {
-            record: after,
-            status: SUCCESS,
-        }
+    if record_legal(r) { SUCCESS } else { BAD_TABLE }
+}
+
+// The rule, by value.
+fn after(status: u16, r: Record, m: Media) -> Record
+    ensures { λ x. ⌜ x ≡ lentAfter status m r ⌝ }
+{
+    if status == SUCCESS {
+        after_event(r, m)
     } else {
-        Charged {
-            record: r,
-            status: BAD_TABLE,
-        }
+        r
     }
 }
 
 pub fn charge(record: &mut Record, m: Media) -> u16
     ensures { λ n. ⌜ ChargedInPlace m (now («record» .entry)) (now («record» .exit)) n ⌝ }
 {
-    let c = charge_rule(*record, m);
-    *record = c.record;
-    c.status
+    let status = status_of(*record);
+    *record = after(status, *record, m);
+    status
 }

@@ -6,5 +6,5 @@ pub new-state-spec : {M : Type 1} → statement M
 new-state-spec =
     tie.close
     (tie.spec
-    (λ c κs. search needs)
-    (λ c. simp (c .no-events .ensures)))
+    (λ c κs. search needs) (λ c κs. search needs) (λ c κs. search needs) (λ c κs. search needs) (λ c κs. search needs)
+    (λ c. simp (c .state-of .ensures, c .before .nothing-recovered .ensures, c .before .before .nothing-spent .ensures, c .before .before .before .config-of .ensures, c .before .before .before .before .no-events .ensures)))

@@ -20,7 +20,7 @@ excursion-at-spec =
     (λ c.
     let p = c .before .before in
     let e = p .before in
-    let l = e .before .before .before in
+    let l = e .before .before .before .before in
     let s = l .before .before .before in
     let b = s .args .region .now in
     let i = s .args .slot .0 in
