@@ -1,6 +1,5 @@
 -- 01: "Set-up takes a lent list of attribute records; the core first takes the 84-byte bodies below."
 use mathlib.Core.Path.{_≡_}
-use mathlib.Core.Bool.{true}
 use mathlib.Core.List.{List, [], _∷_, _++_, map}
 use Prim.Native.Nat.{ℕ, _<_}
 use lib.ListN.{length}
@@ -8,23 +7,19 @@ use Rattle.record.specs.declared.Attributes.{Attributes}
 use Rattle.table.specs.Table.{maxSets}
 use Rattle.replies.specs.Numbers.{badSetUp}
 use Rattle.pages.specs.Bodies.{body, AllSized}
-use Rattle.steps.specs.SetUp.{newRecord, newSets, fitFrom, SetUp}
+use Rattle.steps.specs.SetUp.{newRecord, newSets, SetUp}
 
 -- the bodies of a list, one after another
 abbrev pub bodiesOf : List Attributes → List ℕ
 bodiesOf [] = []
 bodiesOf (a ∷ list) = body a ++ bodiesOf list
 
--- ---- Three laws, each proved under its name, in lower case and with dashes, in proofs/OfList.antt.
+-- ---- Two laws, each proved under its name, in lower case and with dashes, in proofs/OfList.antt.
 
 -- "Set-up takes a lent list of attribute records": the sets that it makes have the list's own attributes, and nothing is lost in a
 -- body, for numbers that fit their fields, as those of the types u16, u32 and u64 do.
 abbrev pub TheirOwn : Type 0
 TheirOwn = (list : List Attributes) → AllSized list → newSets (bodiesOf list) ≡ map newRecord list
-
--- and none of its bodies is refused for a number that a record has no room for: records of attributes have none
-abbrev pub AllFit : Type 0
-AllFit = (list : List Attributes) → AllSized list → fitFrom (bodiesOf list) 0 (length list) ≡ true
 
 -- "number of sets .. wrong 07C4h", "nothing written": of a list that is too long, though not all of its bodies are made
 abbrev pub TooMany : Type 0

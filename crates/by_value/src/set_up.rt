@@ -1,23 +1,21 @@
 // The record of a new set, and what set-up refuses.
 ghost use mathlib.Core.Path.{_≡_};
-ghost use mathlib.Core.Bool.{_&&_};
 ghost use mathlib.Core.List.{map};
 ghost use Prim.Native.Nat.{_+_, _*_, _≤_};
 ghost use lib.ListN.{length};
 ghost use Rattle.table.specs.Table.{legalSets};
-ghost use Rattle.pages.specs.Bodies.{bodySize};
-ghost use Rattle.steps.specs.SetUp.{newState, newRecord, attributesFrom, fitFrom, setUpStatus};
+ghost use Rattle.pages.specs.Bodies.{bodySize, attributesIn};
+ghost use Rattle.steps.specs.SetUp.{newState, newRecord, attributesFrom, setUpStatus};
 ghost use Rattle.by_value.specs.SetUp.{followsOf};
 use pages::bodies::BODY;
-use pages::bodies::attributes_in;
-use pages::bodies::limits_fit;
+use pages::bodies::body_id;
+use pages::bodies::body_legal;
 use record::Attributes;
 use record::Notes;
 use record::Record;
 use record::State;
 use record::Window;
 use record::event::no_events;
-use record::legal::attributes_legal;
 use record::parts::config_of;
 use record::parts::nothing_recovered;
 use record::parts::nothing_spent;
@@ -51,27 +49,25 @@ pub fn new_record(a: Attributes) -> Record
     }
 }
 
-// Whether limits fit, attributes are in range and their identifier is above the one before.
-fn follows(before: u64, fit: bool, a: Attributes) -> bool
-    ensures { λ r. ⌜ r ≡ followsOf before fit a ⌝ }
+// Whether a body's attributes are in range and its identifier is above the one before.
+fn follows(before: u64, bytes: &[u8], at: usize) -> bool
+    requires { ⌜ at + bodySize ≤ length (now bytes) ⌝ }
+    ensures { λ r. ⌜ r ≡ followsOf before (attributesIn (now (bytes .entry)) at) ⌝ }
 {
-    let id = a.id.0 as u64;
-    let legal = attributes_legal(a);
-    fit & (legal & (before < id))
+    let legal = body_legal(bytes, at);
+    legal & (before < body_id(bytes, at))
 }
 
 fn bodies_legal(bytes: &[u8], n: usize) -> bool
     requires { ⌜ n * bodySize ≤ length (now bytes) ⌝ }
-    ensures { λ r. ⌜ r ≡ fitFrom (now (bytes .entry)) 0 n && legalSets 0 (map newRecord (attributesFrom (now (bytes .entry)) 0 n)) ⌝ }
+    ensures { λ r. ⌜ r ≡ legalSets 0 (map newRecord (attributesFrom (now (bytes .entry)) 0 n)) ⌝ }
 {
     let mut before = 0;
     let mut at = 0;
     let mut i = 0;
     while i < n {
-        let a = attributes_in(bytes, at);
-        let fit = limits_fit(bytes, at);
-        if follows(before, fit, a) {
-            before = a.id.0 as u64;
+        if follows(before, bytes, at) {
+            before = body_id(bytes, at);
         } else {
             return false;
         }

@@ -5,7 +5,8 @@ ghost use Prim.Native.Nat.{_+_, _*_, _≤_};
 ghost use lib.ListN.{length};
 ghost use Rattle.table.specs.Table.{rowStart, writtenRows};
 ghost use Rattle.pages.specs.Bodies.{bodySize};
-ghost use Rattle.steps.specs.SetUp.{newRecord, attributesFrom, SetUp};
+ghost use Rattle.steps.specs.SetUp.{attributesFrom, SetUp};
+ghost use Rattle.by_value.specs.SetUp.{keptRecord};
 use by_value::set_up::new_record;
 use by_value::set_up::refusal;
 use pages::bodies::BODY;
@@ -16,7 +17,7 @@ use table::layout::LAYOUT;
 // The rows of n new sets.
 fn write_rows(table: &mut [u64], bytes: &[u8], n: usize)
     requires { ⌜ (n * bodySize ≤ length (now bytes)) × (rowStart n ≤ length (now table)) ⌝ }
-    ensures { λ _. ⌜ now (table .exit) ≡ writtenRows (now (table .entry)) (map newRecord (attributesFrom (now (bytes .entry)) 0 n)) ⌝ }
+    ensures { λ _. ⌜ now (table .exit) ≡ writtenRows (now (table .entry)) (map keptRecord (attributesFrom (now (bytes .entry)) 0 n)) ⌝ }
 {
     let mut at = 0;
     let mut i = 0;

@@ -16,10 +16,11 @@ use Rattle.table.specs.Layout.{wordsOf}
 use Rattle.table.specs.Card.{layoutNumber}
 use Rattle.table.specs.Table.{rowStart}
 use Rattle.table.proofs.Records.{length-words}
-use Rattle.pages.specs.Bodies.{bodySize, attributesIn}
+use Rattle.pages.specs.Bodies.{bodySize, attributesIn, keptOf}
 use Rattle.steps.specs.SetUp.{newRecord, attributesFrom, bodies, newSets, newCard, setUpStatus, newTable, SetUp}
 use Rattle.steps.proofs.NewSets.{well, new-length, new-header}
-use Rattle.by_value.proofs.Bodies.{bodies-none, bodies-more, set-up-refused, set-up-done}
+use Rattle.by_value.specs.SetUp.{keptRecord}
+use Rattle.by_value.proofs.Bodies.{bodies-none, bodies-more, kept-sets, set-up-refused, set-up-done}
 use Rattle.region.specs.Region.{tableIn, tableOut, withRecord, withRecords}
 use Rattle.region.proofs.Words.{row-out, length-in, own-region}
 use Rattle.region.proofs.EveryRow.{card-out}
@@ -30,34 +31,34 @@ pub record Filling (bytes b₀ : List ℕ) (n : ℕ) (b : List ℕ) (at i : ℕ)
   pub place : at ≡ i * bodySize
   pub each : AllBytes b
   pub long : length b ≡ length b₀
-  pub todo : withRecords b i (map newRecord (attributesFrom bytes at (n - i))) ≡ withRecords b₀ 0 (map newRecord (attributesFrom bytes 0 n))
+  pub todo : withRecords b i (map keptRecord (attributesFrom bytes at (n - i))) ≡ withRecords b₀ 0 (map keptRecord (attributesFrom bytes 0 n))
 
 pub filling-start : (bytes b : List ℕ) (n : ℕ) → AllBytes b → Filling bytes b n b 0 0
 filling-start bytes b n each = record { some = omega arith; place = refl; each = each; long = refl; todo = rw sub-zero }
 
 pub filling-turn :
     (bytes b₀ : List ℕ) (n : ℕ) (b : List ℕ) (at i : ℕ) → rowStart n ≤ length b₀ / wordSize → i < n → Filling bytes b₀ n b at i
-    → (a : Attributes) (r : Record) (c : List ℕ) → a ≡ attributesIn bytes at → r ≡ newRecord a → c ≡ withRecord b i r
+    → (a : Attributes) (r : Record) (c : List ℕ) → a ≡ keptOf (attributesIn bytes at) → r ≡ newRecord a → c ≡ withRecord b i r
     → Filling bytes b₀ n c (at + bodySize) (i + 1)
 filling-turn bytes b₀ n b at i room h u a r c ea er ec =
     let from = rowStart i * wordSize in
     let l = u .long in
     let inb : rowStart (i + 1) ≤ length b / wordSize = omega (arith, l) in
     let cut : c ≡ putWords b from (wordsOf r) = ec ∙ sym (row-out b (wordsOf r) i from (u .each) (length-words r) inb refl) in
-    let is : r ≡ newRecord (attributesIn bytes at) = er ∙ ap newRecord ea in
+    let is : r ≡ keptRecord (attributesIn bytes at) = er ∙ ap newRecord ea in
     record {
       some = omega arith;
       place = omega (arith, u .place);
       each = λ (j : ℕ). rw cut (put-bytes (wordsOf r) b from (u .each) j);
       long = ap length cut ∙ length-put-words (wordsOf r) b from ∙ l;
       todo =
-          ap₂ (λ (y : List ℕ) (k : ℕ). withRecords y k (map newRecord (attributesFrom bytes (at + bodySize) (n - (i + 1))))) (cut ∙ ap (λ (z : Record). putWords b from (wordsOf z)) is) (add-one i)
-          ∙ ap (λ (l : List Attributes). withRecords b i (map newRecord l)) (sym (bodies-more bytes n i at h))
+          ap₂ (λ (y : List ℕ) (k : ℕ). withRecords y k (map keptRecord (attributesFrom bytes (at + bodySize) (n - (i + 1))))) (cut ∙ ap (λ (z : Record). putWords b from (wordsOf z)) is) (add-one i)
+          ∙ ap (λ (l : List Attributes). withRecords b i (map keptRecord l)) (sym (bodies-more bytes n i at h))
           ∙ u .todo;
     }
 
-pub filling-end : (bytes b₀ : List ℕ) (n : ℕ) (b : List ℕ) (at i : ℕ) → n ≤ i → Filling bytes b₀ n b at i → b ≡ withRecords b₀ 0 (map newRecord (attributesFrom bytes 0 n))
-filling-end bytes b₀ n b at i h u = ap (λ (l : List Attributes). withRecords b i (map newRecord l)) (sym (bodies-none bytes n i at h)) ∙ u .todo
+pub filling-end : (bytes b₀ : List ℕ) (n : ℕ) (b : List ℕ) (at i : ℕ) → n ≤ i → Filling bytes b₀ n b at i → b ≡ withRecords b₀ 0 (map keptRecord (attributesFrom bytes 0 n))
+filling-end bytes b₀ n b at i h u = ap (λ (l : List Attributes). withRecords b i (map keptRecord l)) (sym (bodies-none bytes n i at h)) ∙ u .todo
 
 module _ (bytes b : List ℕ) (s : ℕ) (each : AllBytes b) (e : s ≡ setUpStatus bytes (length b / wordSize)) where
   on-words : s ≡ setUpStatus bytes (length (tableIn b))
@@ -69,7 +70,7 @@ module _ (bytes b : List ℕ) (s : ℕ) (each : AllBytes b) (e : s ≡ setUpStat
       record { table = sym (own-region b each) ∙ ap (tableOut b) (u .table); status = u .status }
 
   pub new-done :
-      s ≡ 0 → (c d : List ℕ) → c ≡ putWords b 0 (layoutNumber ∷ bodies bytes ∷ []) → d ≡ withRecords c 0 (map newRecord (attributesFrom bytes 0 (bodies bytes)))
+      s ≡ 0 → (c d : List ℕ) → c ≡ putWords b 0 (layoutNumber ∷ bodies bytes ∷ []) → d ≡ withRecords c 0 (map keptRecord (attributesFrom bytes 0 (bodies bytes)))
       → SetUpAtC bytes b d s
   unfolding newSets
   new-done z c d ec ed =
@@ -78,7 +79,8 @@ module _ (bytes b : List ℕ) (s : ℕ) (each : AllBytes b) (e : s ≡ setUpStat
       let u = set-up-done bytes (tableIn b) s on-words z (newTable bytes (tableIn b)) refl in
       record {
         table =
-            ed ∙ ap (λ (y : List ℕ). withRecords y 0 (newSets bytes)) (ec ∙ ap (putWords b 0) (new-header bytes))
+            ed ∙ ap (withRecords c 0) (kept-sets 0 (attributesFrom bytes 0 (bodies bytes)) (w .legal))
+            ∙ ap (λ (y : List ℕ). withRecords y 0 (newSets bytes)) (ec ∙ ap (putWords b 0) (new-header bytes))
             ∙ card-out b (newCard bytes) each (omega (arith, m, w .room))
             ∙ ap (tableOut b) (u .table);
         status = u .status;

@@ -7,7 +7,8 @@ ghost use Rattle.octets.specs.Words.{wordSize};
 ghost use Rattle.table.specs.Table.{rowStart};
 ghost use Rattle.pages.specs.Bodies.{bodySize};
 ghost use Rattle.region.specs.Region.{withRecords};
-ghost use Rattle.steps.specs.SetUp.{newRecord, attributesFrom};
+ghost use Rattle.steps.specs.SetUp.{attributesFrom};
+ghost use Rattle.by_value.specs.SetUp.{keptRecord};
 ghost use Rattle.card_c.specs.Entries.{SetUpAtC};
 use by_value::set_up::new_record;
 use by_value::set_up::refusal;
@@ -20,7 +21,7 @@ use table::layout::LAYOUT;
 // The rows of n new sets.
 fn write_rows(region: &mut [u8], bodies: &[u8], n: usize)
     requires { ⌜ (n * bodySize ≤ length (now bodies)) × (rowStart n ≤ length (now region) / wordSize) ⌝ }
-    ensures { λ _. ⌜ now (region .exit) ≡ withRecords (now (region .entry)) 0 (map newRecord (attributesFrom (now (bodies .entry)) 0 n)) ⌝ }
+    ensures { λ _. ⌜ now (region .exit) ≡ withRecords (now (region .entry)) 0 (map keptRecord (attributesFrom (now (bodies .entry)) 0 n)) ⌝ }
 {
     let mut at = 0;
     let mut i = 0;

@@ -8,6 +8,12 @@ pub fn from_byte(n: u8) -> u64
     n as u64
 }
 
+pub fn from_short(n: u16) -> u64
+    ensures { λ r. ⌜ r ≡ n ⌝ }
+{
+    n as u64
+}
+
 pub fn from_u32(n: u32) -> u64
     ensures { λ r. ⌜ r ≡ n ⌝ }
 {

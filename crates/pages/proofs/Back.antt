@@ -1,15 +1,15 @@
 -- What is laid out is read back.
 use mathlib.Core.Path.{_≡_, refl, sym, ap, _∙_}
-use mathlib.Core.Bool.{Bool, true, false, _&&_}
+use mathlib.Core.Bool.{Bool, true, false}
 use mathlib.Core.List.{List}
 use Prim.Native.Nat.{ℕ, _+_, _-_, _%_, _^_, _≤_, _<_}
-use native.Mathlib.Nat.{zero-add, mod-eq-of-lt, mod-lt}
+use native.Mathlib.Nat.{zero-add, mod-eq-of-lt}
 use native.Mathlib.Omega.{arith}
 use borrow.Author.Needs.{needs}
-use lib.Dec.{eqb, ltb}
+use lib.Dec.{eqb}
 use lib.ListN.{length, getD}
 use lib.Seq.{sets}
-use borrow.Author.Tests.{leb-true, lt-ltb}
+use borrow.Author.Tests.{leb-true}
 use Rattle.octets.specs.Choice.{if_then_else_}
 use Rattle.octets.specs.Octets.{part}
 use Rattle.octets.specs.declared.Place.{Place}
@@ -35,7 +35,7 @@ use Rattle.record.specs.Event.{bit, bitsOf, eventsIn, estimate}
 use Rattle.record.proofs.EventBits.{events-back}
 use Rattle.octets.specs.Numbers.{numberAt}
 use Rattle.pages.specs.Capacities.{lowHalf, highHalf, capacityIn}
-use Rattle.pages.specs.Bodies.{bodySize, bodyId, bodyGroup, bodyRandomRead, bodyOptimalWrite, bodyTotal, bodyUnallocated, bodyReads, bodyWrites, bodyTime, bodyHigh, bodyLow, bodyFields, body, limitIn, limitsFit, attributesIn, Sized}
+use Rattle.pages.specs.Bodies.{bodySize, bodyId, bodyGroup, bodyRandomRead, bodyOptimalWrite, bodyTotal, bodyUnallocated, bodyReads, bodyWrites, bodyTime, bodyHigh, bodyLow, bodyFields, body, attributesIn, keptOf, Sized}
 use Rattle.pages.specs.Latency.{latencySize, latencyFields, latencyPage}
 use Rattle.pages.specs.Features.{featureSize, configReads, configWrites, configTime, configFields, configPage, configIn, Words}
 use Rattle.octets.proofs.Pages.{length-place}
@@ -53,11 +53,11 @@ attributesOf l =
       «optimal_write_size» = getD l 3 0;
       total = record { low = getD l 4 0; high = getD l 5 0 };
       unallocated = record { low = getD l 6 0; high = getD l 7 0 };
-      «reads_typical» = getD l 8 0 % 2 ^ 32;
-      «writes_typical» = getD l 9 0 % 2 ^ 32;
-      «time_maximum» = getD l 10 0 % 2 ^ 32;
-      «minimum_high» = getD l 11 0 % 2 ^ 32;
-      «minimum_low» = getD l 12 0 % 2 ^ 32;
+      «reads_typical» = getD l 8 0;
+      «writes_typical» = getD l 9 0;
+      «time_maximum» = getD l 10 0;
+      «minimum_high» = getD l 11 0;
+      «minimum_low» = getD l 12 0;
     }
 
 -- what is read number by number
@@ -66,8 +66,8 @@ module _ (bytes : List ℕ) (at id group random optimal : ℕ) (total unallocate
       id ≡ readAt bytes at bodyId → group ≡ readAt bytes at bodyGroup
       → random ≡ readAt bytes at bodyRandomRead → optimal ≡ readAt bytes at bodyOptimalWrite
       → total ≡ capacityIn bytes at bodyTotal → unallocated ≡ capacityIn bytes at bodyUnallocated
-      → reads ≡ limitIn bytes at bodyReads → writes ≡ limitIn bytes at bodyWrites → time ≡ limitIn bytes at bodyTime
-      → high ≡ limitIn bytes at bodyHigh → low ≡ limitIn bytes at bodyLow
+      → reads ≡ readAt bytes at bodyReads % 2 ^ 32 → writes ≡ readAt bytes at bodyWrites % 2 ^ 32
+      → time ≡ readAt bytes at bodyTime % 2 ^ 32 → high ≡ readAt bytes at bodyHigh % 2 ^ 32 → low ≡ readAt bytes at bodyLow % 2 ^ 32
       → record {
         id = record { 0 = id };
         group = record { 0 = group };
@@ -81,41 +81,44 @@ module _ (bytes : List ℕ) (at id group random optimal : ℕ) (total unallocate
         «minimum_high» = high;
         «minimum_low» = low;
       }
-      ≡ attributesIn bytes at
+      ≡ keptOf (attributesIn bytes at)
   numbers-read e1 e2 e3 e4 e5 e6 e7 e8 e9 e10 e11 = rw (e1, e2, e3, e4, e5, e6, e7, e8, e9, e10, e11)
 
+-- what fits four bytes fits eight
+wide : (x : ℕ) → x < 2 ^ 32 → x < 2 ^ 64
+wide x h = omega (arith, h)
+
 sized-fit : (a : Attributes) → Sized a → Fit (bodyFields a)
-sized-fit a s = search needs
+sized-fit a s = (
+  s .id,
+  (
+    s .group,
+    (
+      s .«random_read_typical»,
+      (
+        s .«optimal_write_size»,
+        (
+          s .«total_low»,
+          (
+            s .«total_high»,
+            (
+              s .«unallocated_low»,
+              (
+                s .«unallocated_high»,
+                (wide _ (s .«reads_typical»), (wide _ (s .«writes_typical»), (wide _ (s .«time_maximum»), (wide _ (s .«minimum_high»), (wide _ (s .«minimum_low»), tt))))),
+              ),
+            ),
+          ),
+        ),
+      ),
+    ),
+  ),
+)
 
 -- a body's attributes are those that it was made of
 pub body-back : (a : Attributes) → Sized a → attributesIn (body a) 0 ≡ a
 unfolding body
-body-back a s =
-    rw (
-      mod-eq-of-lt (s .«reads_typical»),
-      mod-eq-of-lt (s .«writes_typical»),
-      mod-eq-of-lt (s .«time_maximum»),
-      mod-eq-of-lt (s .«minimum_high»),
-      mod-eq-of-lt (s .«minimum_low»),
-    ) at
-    (ap attributesOf (read-back bodySize (bodyFields a) refl (sized-fit a s)))
-
--- the test of a body's limits by the list of its numbers
-abbrev fitsOf : List ℕ → Bool
-fitsOf l = ltb (getD l 8 0) (2 ^ 32) && ltb (getD l 9 0) (2 ^ 32) && ltb (getD l 10 0) (2 ^ 32) && ltb (getD l 11 0) (2 ^ 32) && ltb (getD l 12 0) (2 ^ 32)
-
--- and four bytes hold each of its limits
-pub body-fits : (a : Attributes) → Sized a → limitsFit (body a) 0 ≡ true
-unfolding body
-body-fits a s =
-    rw (
-      lt-ltb _ _ (s .«reads_typical»),
-      lt-ltb _ _ (s .«writes_typical»),
-      lt-ltb _ _ (s .«time_maximum»),
-      lt-ltb _ _ (s .«minimum_high»),
-      lt-ltb _ _ (s .«minimum_low»),
-    ) at
-    (ap fitsOf (read-back bodySize (bodyFields a) refl (sized-fit a s)))
+body-back a s = ap attributesOf (read-back bodySize (bodyFields a) refl (sized-fit a s))
 
 -- attributes are read from a body's bytes alone
 module _ (l : List ℕ) (at : ℕ) where
@@ -140,56 +143,43 @@ module _ (l : List ℕ) (at : ℕ) where
         there bodyLow (omega arith),
       )
 
-  pub limits-alone : limitsFit (part l at bodySize) 0 ≡ limitsFit l at
-  limits-alone =
-      rw (
-        there bodyReads (omega arith),
-        there bodyWrites (omega arith),
-        there bodyTime (omega arith),
-        there bodyHigh (omega arith),
-        there bodyLow (omega arith),
-      )
-
 pub body-length : (a : Attributes) → length (body a) ≡ bodySize
 unfolding body
 body-length a = length-place bodySize (bodyFields a)
 
--- a body stored among bytes is read back there, and bodies elsewhere are as they were
-module _ (l : List ℕ) (at : ℕ) (a : Attributes) where
-  pub body-stored : at + bodySize ≤ length l → Sized a → attributesIn (sets l at (body a)) at ≡ a
-  body-stored h s =
-      sym (body-alone (sets l at (body a)) at)
-      ∙ ap (λ (b : List ℕ). attributesIn b 0) (part-same (body a) l at bodySize (body-length a) h)
-      ∙ body-back a s
+-- ---- what code keeps of attributes in range is all of them
 
-  pub body-elsewhere : (at′ : ℕ) → Apart at bodySize at′ bodySize → attributesIn (sets l at (body a)) at′ ≡ attributesIn l at′
-  body-elsewhere at′ o =
-      sym (body-alone (sets l at (body a)) at′)
-      ∙ ap (λ (b : List ℕ). attributesIn b 0) (part-other (body a) l at at′ bodySize (rw (body-length a) o))
-      ∙ body-alone l at′
+-- what legality says of the limits
+record Limits (a : Attributes) : Type 0 where
+  reads : a .«reads_typical» ≤ typicalMaximum
+  writes : a .«writes_typical» ≤ typicalMaximum
+  time : a .«time_maximum» ≤ dayMs
+  high : a .«minimum_high» ≤ dayMs
+  low : a .«minimum_low» ≤ dayMs
 
--- what is read from bytes fits
-module _ (bytes : List ℕ) (each : (i : ℕ) → getD bytes i 0 < 256) (at : ℕ) (room : at + bodySize ≤ length bytes) where
-  fits : (p : Place) → p .at + p .width ≤ bodySize → readAt bytes at p < 256 ^ p .width
-  fits p h = number-below bytes each (at + p .at) (p .width) (omega arith)
+limits : (a : Attributes) → legalAttributes a ≡ true → Limits a
+limits a h =
+    record {
+      reads = search (and-left, and-right, leb-true) depth 12;
+      writes = search (and-left, and-right, leb-true) depth 12;
+      time = search (and-left, and-right, leb-true) depth 12;
+      high = search (and-left, and-right, leb-true) depth 12;
+      low = search (and-left, and-right, leb-true) depth 12;
+    }
 
-  pub read-sized : Sized (attributesIn bytes at)
-  read-sized =
-      record {
-        id = fits bodyId (omega arith);
-        group = fits bodyGroup (omega arith);
-        «random_read_typical» = fits bodyRandomRead (omega arith);
-        «optimal_write_size» = fits bodyOptimalWrite (omega arith);
-        «total_low» = fits (lowHalf bodyTotal) (omega arith);
-        «total_high» = fits (highHalf bodyTotal) (omega arith);
-        «unallocated_low» = fits (lowHalf bodyUnallocated) (omega arith);
-        «unallocated_high» = fits (highHalf bodyUnallocated) (omega arith);
-        «reads_typical» = mod-lt (readAt bytes at bodyReads) (omega arith);
-        «writes_typical» = mod-lt (readAt bytes at bodyWrites) (omega arith);
-        «time_maximum» = mod-lt (readAt bytes at bodyTime) (omega arith);
-        «minimum_high» = mod-lt (readAt bytes at bodyHigh) (omega arith);
-        «minimum_low» = mod-lt (readAt bytes at bodyLow) (omega arith);
-      }
+kept : (x most : ℕ) → x ≤ most → most < 2 ^ 32 → x % 2 ^ 32 ≡ x
+kept x most h l = mod-eq-of-lt (omega (arith, h, l))
+
+pub kept-whole : (a : Attributes) → legalAttributes a ≡ true → keptOf a ≡ a
+kept-whole a h =
+    let l = limits a h in
+    rw (
+      kept (a .«reads_typical») _ (l .reads) (omega arith),
+      kept (a .«writes_typical») _ (l .writes) (omega arith),
+      kept (a .«time_maximum») _ (l .time) (omega arith),
+      kept (a .«minimum_high») _ (l .high) (omega arith),
+      kept (a .«minimum_low») _ (l .low) (omega arith),
+    )
 
 -- ---- the data of feature 13h
 
@@ -238,24 +228,6 @@ left-below N most n false = omega arith
 -- an estimate is at most the quantity's limit
 pub estimate-below : (q : Quantity) (a : Attributes) (s : State) → estimate q a s ≤ limit q a
 estimate-below q a s = left-below (s .window) (limit q a) (spentOf q (s .spent)) (eqb (s .recovery .time) (need a))
-
--- what legality says of the statics on the page
-record Limits (a : Attributes) : Type 0 where
-  reads : a .«reads_typical» ≤ typicalMaximum
-  writes : a .«writes_typical» ≤ typicalMaximum
-  time : a .«time_maximum» ≤ dayMs
-  high : a .«minimum_high» ≤ dayMs
-  low : a .«minimum_low» ≤ dayMs
-
-limits : (a : Attributes) → legalAttributes a ≡ true → Limits a
-limits a h =
-    record {
-      reads = search (and-left, and-right, leb-true) depth 12;
-      writes = search (and-left, and-right, leb-true) depth 12;
-      time = search (and-left, and-right, leb-true) depth 12;
-      high = search (and-left, and-right, leb-true) depth 12;
-      low = search (and-left, and-right, leb-true) depth 12;
-    }
 
 -- what page 0Ah shows of a legal record fits its places
 pub latency-fit : (r : Record) → legalAttributes (r .attributes) ≡ true → Fit (latencyFields r)

@@ -1,8 +1,6 @@
 -- 01, "One set's record": a set's attributes as the 84 bytes that set-up takes.
-use mathlib.Core.Bool.{Bool, _&&_}
 use mathlib.Core.List.{List, [], _∷_, _++_}
 use Prim.Native.Nat.{ℕ, _%_, _^_, _<_}
-use lib.Dec.{ltb}
 use Rattle.octets.specs.declared.Place.{Place}
 use Rattle.octets.specs.Pages.{Field, span, fieldsAt, readAt, place}
 use Rattle.record.specs.declared.Attributes.{Attributes}
@@ -73,24 +71,6 @@ body a = place bodySize (bodyFields a)
 
 -- ---- a body read
 
--- a limit takes eight bytes and is a number of four
-abbrev pub limitIn : List ℕ → ℕ → Place → ℕ
-limitIn bytes at p = readAt bytes at p % 2 ^ 32
-
--- "reads typical and writes typical, each 1..4,294,967,295; time maximum, minimum high and minimum low, 1..86,400,000 ms
--- each, .. These last five take 8 bytes each.": a number that four bytes do not hold is in none of the ranges, so that set-up
--- refuses the body; what `attributesIn` reads of it is then looked at by nobody
-abbrev pub limitFits : List ℕ → ℕ → Place → Bool
-limitFits bytes at p = ltb (readAt bytes at p) (2 ^ 32)
-
-abbrev pub limitsFit : List ℕ → ℕ → Bool
-limitsFit bytes at =
-    limitFits bytes at bodyReads
-    && limitFits bytes at bodyWrites
-    && limitFits bytes at bodyTime
-    && limitFits bytes at bodyHigh
-    && limitFits bytes at bodyLow
-
 -- the attributes of the body that starts at a place
 abbrev pub attributesIn : List ℕ → ℕ → Attributes
 attributesIn bytes at =
@@ -101,11 +81,29 @@ attributesIn bytes at =
       «optimal_write_size» = readAt bytes at bodyOptimalWrite;
       total = capacityIn bytes at bodyTotal;
       unallocated = capacityIn bytes at bodyUnallocated;
-      «reads_typical» = limitIn bytes at bodyReads;
-      «writes_typical» = limitIn bytes at bodyWrites;
-      «time_maximum» = limitIn bytes at bodyTime;
-      «minimum_high» = limitIn bytes at bodyHigh;
-      «minimum_low» = limitIn bytes at bodyLow;
+      «reads_typical» = readAt bytes at bodyReads;
+      «writes_typical» = readAt bytes at bodyWrites;
+      «time_maximum» = readAt bytes at bodyTime;
+      «minimum_high» = readAt bytes at bodyHigh;
+      «minimum_low» = readAt bytes at bodyLow;
+    }
+
+-- What code keeps of them. "These last five take 8 bytes each", and their ranges lie within four: attributes in range are kept whole
+-- (`kept-whole` in proofs/Back.antt), and no others make a set.
+abbrev pub keptOf : Attributes → Attributes
+keptOf a =
+    record {
+      id = a .id;
+      group = a .group;
+      «random_read_typical» = a .«random_read_typical»;
+      «optimal_write_size» = a .«optimal_write_size»;
+      total = a .total;
+      unallocated = a .unallocated;
+      «reads_typical» = a .«reads_typical» % 2 ^ 32;
+      «writes_typical» = a .«writes_typical» % 2 ^ 32;
+      «time_maximum» = a .«time_maximum» % 2 ^ 32;
+      «minimum_high» = a .«minimum_high» % 2 ^ 32;
+      «minimum_low» = a .«minimum_low» % 2 ^ 32;
     }
 
 -- the attributes whose numbers fit their widths: those of every record that code holds

@@ -1,13 +1,15 @@
 // A set's attributes as the 84 bytes that set-up takes.
 ghost use mathlib.Core.Path.{_≡_};
-ghost use Prim.Native.Nat.{_+_, _≤_};
+ghost use Prim.Native.Nat.{_+_, _%_, _^_, _≤_};
 ghost use lib.ListN.{length};
-ghost use Rattle.octets.specs.Pages.{fieldsAt, puts};
+ghost use Rattle.octets.specs.Pages.{fieldsAt, puts, readAt};
+ghost use Rattle.record.specs.Legal.{legalSizes, legalAttributes};
 ghost use Rattle.pages.specs.Capacities.{namesOf, limitsOf};
-ghost use Rattle.pages.specs.Bodies.{bodySize, bodyNames, bodyLimits, bodyFields, body, limitIn, limitFits, limitsFit, attributesIn};
+ghost use Rattle.pages.specs.Bodies.{bodySize, bodyNames, bodyLimits, bodyFields, body, attributesIn, keptOf};
 use crate::capacities::capacity_in;
 use crate::capacities::put_capacity;
 use octets::Place;
+use octets::casts::from_short;
 use octets::casts::from_u32;
 use octets::numbers::short;
 use octets::numbers::word;
@@ -16,6 +18,12 @@ use octets::put_at;
 use record::Attributes;
 use record::Group;
 use record::SetId;
+use record::legal::DAY_MS;
+use record::legal::FOUR_BYTES_MAXIMUM;
+use record::legal::NUMBER_MAXIMUM;
+use record::legal::TYPICAL_MAXIMUM;
+use record::legal::not_above;
+use record::legal::word_in_range;
 
 pub const BODY: usize = 84;
 
@@ -41,36 +49,17 @@ const HIGH: Place = Place { at: 68, width: 8 };
 
 const LOW: Place = Place { at: 76, width: 8 };
 
-// A limit takes eight bytes and is a number of four: what the lower four say, and whether they say it all.
+// Of a limit's eight bytes the lower four.
 fn limit_in(bytes: &[u8], at: usize, p: Place) -> u32
     requires { ⌜ (p .width ≡ 8) × (at + p .at + 8 ≤ length (now bytes)) ⌝ }
-    ensures { λ r. ⌜ r ≡ limitIn (now (bytes .entry)) at p ⌝ }
+    ensures { λ r. ⌜ r ≡ readAt (now (bytes .entry)) at p % 2 ^ 32 ⌝ }
 {
     (word_in(bytes, at, p) % 4294967296) as u32
 }
 
-fn limit_fits(bytes: &[u8], at: usize, p: Place) -> bool
-    requires { ⌜ (p .width ≡ 8) × (at + p .at + 8 ≤ length (now bytes)) ⌝ }
-    ensures { λ r. ⌜ r ≡ limitFits (now (bytes .entry)) at p ⌝ }
-{
-    word_in(bytes, at, p) < 4294967296
-}
-
-pub fn limits_fit(bytes: &[u8], at: usize) -> bool
-    requires { ⌜ at + bodySize ≤ length (now bytes) ⌝ }
-    ensures { λ r. ⌜ r ≡ limitsFit (now (bytes .entry)) at ⌝ }
-{
-    let reads = limit_fits(bytes, at, READS);
-    let writes = limit_fits(bytes, at, WRITES);
-    let time = limit_fits(bytes, at, TIME);
-    let high = limit_fits(bytes, at, HIGH);
-    let low = limit_fits(bytes, at, LOW);
-    reads & writes & time & high & low
-}
-
 pub fn attributes_in(bytes: &[u8], at: usize) -> Attributes
     requires { ⌜ at + bodySize ≤ length (now bytes) ⌝ }
-    ensures { λ r. ⌜ r ≡ attributesIn (now (bytes .entry)) at ⌝ }
+    ensures { λ r. ⌜ r ≡ keptOf (attributesIn (now (bytes .entry)) at) ⌝ }
 {
     let id = short(bytes, at + ID.at);
     let group = short(bytes, at + GROUP.at);
@@ -96,6 +85,43 @@ pub fn attributes_in(bytes: &[u8], at: usize) -> Attributes
         minimum_high: minimum_high,
         minimum_low: minimum_low,
     }
+}
+
+// A body's identifier.
+pub fn body_id(bytes: &[u8], at: usize) -> u64
+    requires { ⌜ at + bodySize ≤ length (now bytes) ⌝ }
+    ensures { λ r. ⌜ r ≡ attributesIn (now (bytes .entry)) at .id .0 ⌝ }
+{
+    from_short(short(bytes, at + ID.at))
+}
+
+fn sizes_legal(bytes: &[u8], at: usize) -> bool
+    requires { ⌜ at + bodySize ≤ length (now bytes) ⌝ }
+    ensures { λ r. ⌜ r ≡ legalSizes (attributesIn (now (bytes .entry)) at) ⌝ }
+{
+    let id = word_in_range(NUMBER_MAXIMUM, body_id(bytes, at));
+    let group = word_in_range(NUMBER_MAXIMUM, from_short(short(bytes, at + GROUP.at)));
+    let random = word(bytes, at + RANDOM_READ.at) <= FOUR_BYTES_MAXIMUM;
+    let optimal = word(bytes, at + OPTIMAL_WRITE.at) <= FOUR_BYTES_MAXIMUM;
+    let total = capacity_in(bytes, at, TOTAL);
+    let unallocated = capacity_in(bytes, at, UNALLOCATED);
+    id & group & random & optimal & not_above(unallocated, total)
+}
+
+// Whether a body's attributes are in range, straight on its numbers: what of them is kept says no more whether they were.
+pub fn body_legal(bytes: &[u8], at: usize) -> bool
+    requires { ⌜ at + bodySize ≤ length (now bytes) ⌝ }
+    ensures { λ r. ⌜ r ≡ legalAttributes (attributesIn (now (bytes .entry)) at) ⌝ }
+{
+    let sizes = sizes_legal(bytes, at);
+    let reads = word_in_range(TYPICAL_MAXIMUM, word_in(bytes, at, READS));
+    let writes = word_in_range(TYPICAL_MAXIMUM, word_in(bytes, at, WRITES));
+    let time = word_in_range(DAY_MS, word_in(bytes, at, TIME));
+    let most = word_in(bytes, at, HIGH);
+    let least = word_in(bytes, at, LOW);
+    let high = word_in_range(DAY_MS, most);
+    let low = word_in_range(DAY_MS, least);
+    sizes & reads & writes & time & high & low & (least <= most)
 }
 
 fn put_names(page: &mut [u8], a: Attributes)

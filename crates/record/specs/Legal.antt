@@ -39,14 +39,19 @@ inRange most x = leb 1 x && leb x most
 abbrev pub notAbove : Capacity → Capacity → Bool
 notAbove x y = ltb (x .high) (y .high) || (eqb (x .high) (y .high) && leb (x .low) (y .low))
 
--- "statics in range"
-abbrev pub legalAttributes : Attributes → Bool
-legalAttributes a =
+-- what Identify shows of a set: identifier, group, the two sizes, and the capacities
+abbrev pub legalSizes : Attributes → Bool
+legalSizes a =
     inRange numberMaximum (a .id .0)
     && inRange numberMaximum (a .group .0)
     && leb (a .«random_read_typical») fourBytesMaximum
     && leb (a .«optimal_write_size») fourBytesMaximum
     && notAbove (a .unallocated) (a .total)
+
+-- "statics in range"
+abbrev pub legalAttributes : Attributes → Bool
+legalAttributes a =
+    legalSizes a
     && inRange typicalMaximum (a .«reads_typical»)
     && inRange typicalMaximum (a .«writes_typical»)
     && inRange dayMs (a .«time_maximum»)

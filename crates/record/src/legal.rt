@@ -15,7 +15,7 @@ use crate::quantities::need_of;
 pub const NUMBER_MAXIMUM: u32 = 65535;
 
 // A field of 4 bytes holds no more: the type says it again.
-const FOUR_BYTES_MAXIMUM: u32 = 4294967295;
+pub const FOUR_BYTES_MAXIMUM: u32 = 4294967295;
 
 pub const TYPICAL_MAXIMUM: u32 = 4294967295;
 
@@ -27,7 +27,14 @@ fn in_range(most: u32, x: u32) -> bool
     (1 <= x) & (x <= most)
 }
 
-fn not_above(x: Capacity, y: Capacity) -> bool
+// The same of a number as it stands in a word of the table or in a body, which may be larger than its field.
+pub fn word_in_range(most: u32, x: u64) -> bool
+    ensures { λ r. ⌜ r ≡ inRange most x ⌝ }
+{
+    (1 <= x) & (x <= (most as u64))
+}
+
+pub fn not_above(x: Capacity, y: Capacity) -> bool
     ensures { λ r. ⌜ r ≡ notAbove x y ⌝ }
 {
     (x.high < y.high) | ((x.high == y.high) & (x.low <= y.low))

@@ -58,7 +58,7 @@ through false a s t p q = q
 -- the door keeps a legal set legal, whatever the cause
 pub door-keeps : (c : Cause) (a : Attributes) (s : State) → legalAttributes a ≡ true → legalState a s ≡ true → legalState a (going c a s) ≡ true
 unfolding going
-door-keeps c a s h l = through (stays c s) a s (into (movedBy (s .window) c) s) l (starts (movedBy (s .window) c) a s h)
+door-keeps c a s h l = through (stays c (s .window)) a s (into (movedBy (s .window) c) s) l (starts (movedBy (s .window) c) a s h)
 
 -- ---- the rules that go through it: enable, disable, select, excursion
 

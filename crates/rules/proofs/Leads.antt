@@ -33,7 +33,7 @@ pub leads : Leads
 unfolding going
 leads c a s =
     let w = movedBy (s .window) c in
-    led (stays c s) w s (λ t. same-one w (s .window) (and-left (sameWindow w (s .window)) (not (restarts c)) t))
+    led (stays c (s .window)) w s (λ t. same-one w (s .window) (and-left (sameWindow w (s .window)) (not (restarts c)) t))
 
 pub starts-anew : StartsAnew
 unfolding going

@@ -41,13 +41,13 @@ carriedBy TimeUp excess = excess
 abbrev pub into : Window → State → State
 into w s = stateOf w (s .config) nothingSpent noRecovery
 
--- whether the set stays as it is: "Selecting the window already held succeeds and changes nothing: no refill, no restart."
-abbrev pub stays : Cause → State → Bool
-stays c s = sameWindow (movedBy (s .window) c) (s .window) && not (restarts c)
+-- whether a set in window v stays as it is: "Selecting the window already held succeeds and changes nothing: no refill, no restart."
+abbrev pub stays : Cause → Window → Bool
+stays c v = sameWindow (movedBy v c) v && not (restarts c)
 
 -- The state after a cause. No window's start looks at the attributes: every N needs the same time, high.
 unfoldable pub going : Cause → Attributes → State → State
-going c a s = if stays c s then s else into (movedBy (s .window) c) s
+going c a s = if stays c (s .window) then s else into (movedBy (s .window) c) s
 
 -- ---- Three laws of the door, proved under their names, in lower case and with dashes, in proofs/Leads.antt.
 
@@ -58,7 +58,7 @@ Leads = (c : Cause) (a : Attributes) (s : State) → going c a s .window ≡ mov
 -- a set that does not stay has another window's start before it: nothing spent, nothing recovered, its configuration as it was
 abbrev pub StartsAnew : Type 0
 StartsAnew =
-    (c : Cause) (a : Attributes) (s : State) → stays c s ≡ false
+    (c : Cause) (a : Attributes) (s : State) → stays c (s .window) ≡ false
     → (going c a s .spent ≡ nothingSpent) × (going c a s .recovery ≡ noRecovery) × (going c a s .config ≡ s .config)
 
 -- "Selecting the window already held succeeds and changes nothing: no refill, no restart."

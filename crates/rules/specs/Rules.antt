@@ -22,7 +22,7 @@ use Rattle.record.specs.Parts.{recovers, configured, havingRecovered, effectOf}
 use Rattle.record.specs.Quantities.{limit, spentOf, need, spending}
 use Rattle.record.specs.Windows.{byWindow, sameWindow}
 use Rattle.rules.specs.Changes.{movedBy}
-use Rattle.rules.specs.Door.{carriedBy, stays, going}
+use Rattle.rules.specs.Door.{carriedBy, going}
 use Rattle.record.specs.Event.{leftOf, noEvents, warning, warns, enteringD, andExceeded, anExcursion}
 use Rattle.record.specs.declared.Events.{Events}
 
@@ -59,8 +59,14 @@ isEarly c a s =
 abbrev pub onEntering : Window → Attributes → Config → Events
 onEntering w a c = byWindow w noEvents (enteringD a c) noEvents
 
+-- what happens where a cause moves a set from v to w, and nothing where it does not
+abbrev pub moving : Window → Window → Events → Events
+moving v w e = if sameWindow v w then noEvents else e
+
 abbrev pub selecting : Cause → Attributes → State → Effect
-selecting c a s = noting (going c a s) (if stays c s then noEvents else onEntering (movedBy (s .window) c) a (s .config))
+selecting c a s =
+    let w = movedBy (s .window) c in
+    noting (going c a s) (moving (s .window) w (onEntering w a (s .config)))
 
 -- ---- reads, writes, excursions and ticks
 
@@ -100,7 +106,7 @@ writeEvent k a s = onlyInD s (charge Writes k a s)
 
 -- "An excursion counts only in D": elsewhere its entry leads to the window that the set is in, and it stays.
 abbrev pub excursionEvent : Attributes → State → Effect
-excursionEvent a s = noting (going cause.Excursion a s) (if stays cause.Excursion s then noEvents else anExcursion)
+excursionEvent a s = noting (going cause.Excursion a s) (moving (s .window) (movedBy (s .window) cause.Excursion) anExcursion)
 
 -- what the media layer reports of a set
 abbrev pub mediaRule : Media → Attributes → State → Effect

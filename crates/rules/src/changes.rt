@@ -46,7 +46,8 @@ fn entry(w: Window, c: Cause) -> Next
     CHANGES[i][j]
 }
 
-fn moved_from(w: Window, c: Cause) -> Window
+// The window after a cause; where the table refuses, and where the cause never arises, the one held.
+pub fn moved(w: Window, c: Cause) -> Window
     ensures { λ r. ⌜ r ≡ movedBy w c ⌝ }
 {
     let n = entry(w, c);
@@ -56,18 +57,6 @@ fn moved_from(w: Window, c: Cause) -> Window
         Next::ToOff => Window::Off,
         Next::ToD => Window::D,
         Next::ToN => Window::N,
-    }
-}
-
-// The window after a cause; where the table refuses, and where the cause never arises, the one held. That each window stands in the code
-// lets the compiler read the table's entries ahead.
-pub fn moved(w: Window, c: Cause) -> Window
-    ensures { λ r. ⌜ r ≡ movedBy w c ⌝ }
-{
-    match w {
-        Window::Off => moved_from(Window::Off, c),
-        Window::D => moved_from(Window::D, c),
-        Window::N => moved_from(Window::N, c),
     }
 }
 

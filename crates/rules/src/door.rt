@@ -1,5 +1,6 @@
 // The one door between windows: nothing else makes a window, and all that hangs on the cause stands here.
 ghost use mathlib.Core.Path.{_≡_};
+ghost use Rattle.rules.specs.Changes.{movedBy};
 ghost use Rattle.rules.specs.Door.{restarts, carriedBy, into, stays, going};
 use crate::Cause;
 use crate::changes::moved;
@@ -48,20 +49,31 @@ fn start(w: Window, s: State) -> State
     state_of(w, c, nothing_spent(), nothing_recovered())
 }
 
-pub fn is_staying(c: Cause, s: State) -> bool
-    ensures { λ r. ⌜ r ≡ stays c s ⌝ }
+fn is_staying(c: Cause, v: Window, next: Window) -> bool
+    requires { ⌜ next ≡ movedBy v c ⌝ }
+    ensures { λ r. ⌜ r ≡ stays c v ⌝ }
 {
-    let w = s.window;
     let again = starts_again(c);
-    let same = same_window(moved(w, c), w);
-    same & !again
+    same_window(next, v) & !again
+}
+
+// The state after a cause, for a set in window v. Where a caller writes the window down the compiler reads the table's entry ahead.
+pub fn go_from(v: Window, c: Cause, a: Attributes, s: State) -> State
+    requires { ⌜ s .window ≡ v ⌝ }
+    ensures { λ r. ⌜ r ≡ going c a s ⌝ }
+{
+    let next = moved(v, c);
+    if is_staying(c, v, next) {
+        s
+    } else {
+        start(next, s)
+    }
 }
 
 // The state after a cause.
 pub fn go(c: Cause, a: Attributes, s: State) -> State
     ensures { λ r. ⌜ r ≡ going c a s ⌝ }
 {
-    let w = s.window;
-    let next = moved(w, c);
-    if is_staying(c, s) { s } else { start(next, s) }
+    let v = s.window;
+    go_from(v, c, a, s)
 }

@@ -4,11 +4,12 @@ pub mod door;
 
 ghost use mathlib.Core.Path.{_≡_};
 ghost use Prim.Native.Nat.{_+_};
+ghost use Rattle.record.specs.declared.Window.{Window};
 ghost use Rattle.rules.specs.Rules.{noting, still, onlyInD, causeOfMode, configure, isEarly, onEntering, selecting, isOver, causeOver, recovering, leaving, charge, readEvent, writeEvent, excursionEvent, mediaRule, tick, clearingRead};
 use crate::changes::moved;
 use crate::door::carried_over;
 use crate::door::go;
-use crate::door::is_staying;
+use crate::door::go_from;
 use record::Attributes;
 use record::Config;
 use record::Effect;
@@ -113,13 +114,14 @@ fn on_entering(w: Window, a: Attributes, c: Config) -> Events
 pub fn go_to_selected(a: Attributes, s: State, c: Cause) -> Effect
     ensures { λ r. ⌜ r ≡ selecting c a s ⌝ }
 {
-    let w = s.window;
+    let v = s.window;
     let config = s.config;
     let t = go(c, a, s);
-    if is_staying(c, s) {
+    let w = t.window;
+    if same_window(v, w) {
         keep_still(t)
     } else {
-        note(t, on_entering(moved(w, c), a, config))
+        note(t, on_entering(w, a, config))
     }
 }
 
@@ -157,14 +159,20 @@ fn recover(a: Attributes, s: State, t: u64) -> State
 
 // Out of D with n of a quantity: through the door, and what the cause carries over.
 fn leave_d(a: Attributes, s: State, q: Quantity, n: u64) -> State
+    requires { ⌜ s .window ≡ Window.D ⌝ }
     ensures { λ r. ⌜ r ≡ leaving q n a s ⌝ }
 {
     let most = limit_of(a, q) as u64;
     let c = cause_over(q);
-    recover(a, go(c, a, s), carried_over(c, floored(n, most)))
+    recover(
+        a,
+        go_from(Window::D, c, a, s),
+        carried_over(c, floored(n, most)),
+    )
 }
 
 fn charge_by(a: Attributes, s: State, q: Quantity, k: u32) -> Effect
+    requires { ⌜ s .window ≡ Window.D ⌝ }
     ensures { λ r. ⌜ r ≡ charge q k a s ⌝ }
 {
     let most = limit_of(a, q) as u64;
@@ -203,14 +211,27 @@ pub fn write_event(a: Attributes, s: State, k: u16) -> Effect
     charge_in_d(a, s, Quantity::Writes, k)
 }
 
-pub fn excursion_event(a: Attributes, s: State) -> Effect
+fn excursion_from(v: Window, a: Attributes, s: State) -> Effect
+    requires { ⌜ s .window ≡ v ⌝ }
     ensures { λ r. ⌜ r ≡ excursionEvent a s ⌝ }
 {
-    let t = go(Cause::Excursion, a, s);
-    if is_staying(Cause::Excursion, s) {
+    let t = go_from(v, Cause::Excursion, a, s);
+    let w = t.window;
+    if same_window(v, w) {
         keep_still(t)
     } else {
         note(t, an_excursion())
+    }
+}
+
+pub fn excursion_event(a: Attributes, s: State) -> Effect
+    ensures { λ r. ⌜ r ≡ excursionEvent a s ⌝ }
+{
+    let w = s.window;
+    match w {
+        Window::Off => excursion_from(Window::Off, a, s),
+        Window::D => excursion_from(Window::D, a, s),
+        Window::N => excursion_from(Window::N, a, s),
     }
 }
 

@@ -23,7 +23,7 @@ use Rattle.table.proofs.Written.{Fitting, written-back, written-legal}
 use Rattle.pages.specs.Bodies.{bodySize, attributesIn}
 use Rattle.replies.specs.Answers.{granted, refused}
 use Rattle.steps.specs.Words.{Result}
-use Rattle.steps.specs.SetUp.{newRecord, attributesFrom, bodies, newSets, fitFrom, legalBodies, newCard, setUpLines, setUpStatus, newTable, setUp, SetUp}
+use Rattle.steps.specs.SetUp.{newRecord, attributesFrom, bodies, newSets, newCard, setUpLines, setUpStatus, newTable, setUp, SetUp}
 
 -- ---- the status
 
@@ -43,7 +43,7 @@ well bytes words s e z =
     record {
       range = r;
       some = leb-true 1 (bodies bytes) (both (leb 1 (bodies bytes)) _ r .0);
-      legal = both (fitFrom bytes 0 (bodies bytes)) _ (not-false (legalBodies bytes) (n .1 .1 .0)) .1;
+      legal = not-false _ (n .1 .1 .0);
       room = ltb-false words (rowStart (bodies bytes)) (n .1 .1 .1 .0);
       whole = omega arith;
     }

@@ -1,6 +1,6 @@
 -- 01, set-up: "the core first takes the 84-byte bodies below". One definition, apart from the step.
 use mathlib.Core.Path.{_≡_}
-use mathlib.Core.Bool.{Bool, true, false, not, _&&_}
+use mathlib.Core.Bool.{false, not}
 use mathlib.Core.List.{List, [], _∷_, map}
 use Prim.Native.Nat.{ℕ, zero, suc, _+_, _/_, _%_}
 use lib.Dec.{ltb, eqb}
@@ -18,7 +18,7 @@ use Rattle.replies.specs.Status.{Line, line, firstOf}
 use Rattle.replies.specs.Answers.{granted, refused}
 use Rattle.table.specs.Card.{Card}
 use Rattle.table.specs.Table.{rowStart, legalSets, written, maxSets}
-use Rattle.pages.specs.Bodies.{bodySize, attributesIn, limitsFit}
+use Rattle.pages.specs.Bodies.{bodySize, attributesIn}
 use Rattle.steps.specs.Words.{Result}
 
 -- "Set-up starts all off and zero."
@@ -45,21 +45,12 @@ bodies bytes = length bytes / bodySize
 unfoldable pub newSets : List ℕ → List Record
 newSets bytes = map newRecord (attributesFrom bytes 0 (bodies bytes))
 
--- whether each limit of n bodies from a place on is a number that a record keeps
-abbrev pub fitFrom : List ℕ → ℕ → ℕ → Bool
-fitFrom bytes at zero = true
-fitFrom bytes at (suc n) = limitsFit bytes at && fitFrom bytes (at + bodySize) n
-
--- "statics in range", "identifiers strictly rising"
-abbrev pub legalBodies : List ℕ → Bool
-legalBodies bytes = fitFrom bytes 0 (bodies bytes) && legalSets 0 (newSets bytes)
-
 -- "Set-up: number of sets, order, an attribute or a body's length wrong 07C4h, then table slice too short 07C2h."
 abbrev pub setUpLines : List ℕ → ℕ → List Line
 setUpLines bytes words =
     line (not (inRange maxSets (bodies bytes))) badSetUp
     ∷ line (not (eqb (length bytes % bodySize) 0)) badSetUp
-    ∷ line (not (legalBodies bytes)) badSetUp
+    ∷ line (not (legalSets 0 (newSets bytes))) badSetUp
     ∷ line (ltb words (rowStart (bodies bytes))) tooShort
     ∷ []
 

@@ -1,7 +1,6 @@
 // Legality of a row, straight on its words: `legal-words` ties it to that of the record.
 ghost use mathlib.Core.Path.{_≡_};
 ghost use Rattle.octets.specs.Choice.{if_then_else_};
-ghost use Rattle.record.specs.Legal.{inRange};
 ghost use Rattle.table.specs.Table.{legalAfter};
 ghost use Rattle.table.specs.LegalWords.{capacitiesLegal, staticsLegal, withinBits, changingLegal, notesLegal};
 use crate::layout::ROW;
@@ -10,14 +9,9 @@ use record::event::events_in;
 use record::legal::DAY_MS;
 use record::legal::NUMBER_MAXIMUM;
 use record::legal::TYPICAL_MAXIMUM;
+use record::legal::word_in_range;
 
 const FOUR_BYTES_MAXIMUM: u64 = 4294967295;
-
-fn in_range(most: u32, x: u64) -> bool
-    ensures { λ r. ⌜ r ≡ inRange most x ⌝ }
-{
-    (1 <= x) & (x <= (most as u64))
-}
 
 fn capacities_legal(a: [u64; ROW]) -> bool
     ensures { λ r. ⌜ r ≡ capacitiesLegal a ⌝ }
@@ -32,16 +26,16 @@ fn capacities_legal(a: [u64; ROW]) -> bool
 fn statics_legal(a: [u64; ROW]) -> bool
     ensures { λ r. ⌜ r ≡ staticsLegal a ⌝ }
 {
-    let id = in_range(NUMBER_MAXIMUM, a[0]);
-    let group = in_range(NUMBER_MAXIMUM, a[1]);
+    let id = word_in_range(NUMBER_MAXIMUM, a[0]);
+    let group = word_in_range(NUMBER_MAXIMUM, a[1]);
     let random = a[2] <= FOUR_BYTES_MAXIMUM;
     let optimal = a[3] <= FOUR_BYTES_MAXIMUM;
     let capacities = capacities_legal(a);
-    let reads = in_range(TYPICAL_MAXIMUM, a[8]);
-    let writes = in_range(TYPICAL_MAXIMUM, a[9]);
-    let time = in_range(DAY_MS, a[10]);
-    let high = in_range(DAY_MS, a[11]);
-    let low = in_range(DAY_MS, a[12]);
+    let reads = word_in_range(TYPICAL_MAXIMUM, a[8]);
+    let writes = word_in_range(TYPICAL_MAXIMUM, a[9]);
+    let time = word_in_range(DAY_MS, a[10]);
+    let high = word_in_range(DAY_MS, a[11]);
+    let low = word_in_range(DAY_MS, a[12]);
     let sizes = id & group & random & optimal & capacities;
     sizes & reads & writes & time & high & low & (a[12] <= a[11])
 }

@@ -6,11 +6,7 @@ pub on-entering-spec : {M : Type 1} → statement M
 on-entering-spec =
     tie.close
     (tie.spec
-    (λ c. search needs)
-    (λ c κs. search needs)
-    (λ c. search needs)
-    (λ c κs. search needs)
-    (λ c. search needs)
+    (λ c. search needs) (λ c κs. search needs) (λ c. search needs) (λ c κs. search needs) (λ c. search needs)
     (λ c κs. search needs)
     (λ c. simp (c .no-events .ensures, c .before .enum-told .given .1))
     (λ c. simp (c .entering-d .ensures, c .before .enum-told2 .given .1))

@@ -6,5 +6,6 @@ pub follows-spec : {M : Type 1} → statement M
 follows-spec =
     tie.close
     (tie.spec
-    (λ c. search needs) (λ c κs. search needs)
-    (λ c. simp (c .attributes-legal .ensures)))
+    (λ c κs. search needs)
+    (λ c κs. search needs)
+    (λ c. simp (c .body-id .ensures, c .before .body-legal .ensures)))

@@ -33,5 +33,5 @@ set-up-spec =
     let v = c .before .before in
     let p = v .before .before .before .before in
     let t = p .before .before .before in
-    set-up-done _ _ _ (t .before .refusal .ensures) (t .if1 .taken) _ (headed-rows _ _ _ _ (p .copy-words .ensures) (v .write-rows .ensures)))
+    set-up-done _ _ _ (t .before .refusal .ensures) (t .if1 .taken) _ (headed-rows _ _ _ _ (well _ _ _ (t .before .refusal .ensures) (t .if1 .taken) .legal) (p .copy-words .ensures) (v .write-rows .ensures)))
     (λ c. set-up-refused _ _ _ (c .before .refusal .ensures) (c .if1 .left)))

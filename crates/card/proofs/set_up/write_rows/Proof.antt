@@ -5,7 +5,8 @@ use borrow.Author.Needs.{needs}
 use lib.ListN.{length}
 use Rattle.table.specs.Table.{writtenRows}
 use Rattle.pages.specs.Bodies.{bodySize}
-use Rattle.steps.specs.SetUp.{newRecord, attributesFrom}
+use Rattle.steps.specs.SetUp.{attributesFrom}
+use Rattle.by_value.specs.SetUp.{keptRecord}
 use Rattle.by_value.proofs.Bodies.{rowsLeft, rows-start, rows-end, rows-again}
 use Rattle.card.proofs.set_up.write_rows.Statement.{statement}
 use Rattle.card.proofs.set_up.write_rows.Tie as tie
@@ -13,7 +14,7 @@ use Rattle.card.proofs.set_up.write_rows.Tie as tie
 abbrev Inv-loop : tie.InvT-loop
 Inv-loop table₀ bytes n at₀ i₀ table at i =
     (i ≤ n) × (at ≡ i * bodySize) × (length table ≡ length table₀)
-    × (rowsLeft table bytes n i at ≡ writtenRows table₀ (map newRecord (attributesFrom bytes 0 n)))
+    × (rowsLeft table bytes n i at ≡ writtenRows table₀ (map keptRecord (attributesFrom bytes 0 n)))
 
 abbrev μ-loop : tie.MeasureT-loop
 μ-loop table₀ bytes n at₀ i₀ table at i = n - i

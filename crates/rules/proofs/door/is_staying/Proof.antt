@@ -6,7 +6,5 @@ pub is-staying-spec : {M : Type 1} → statement M
 is-staying-spec =
     tie.close
     (tie.spec
-    (λ c κs. search needs)
-    (λ c κs. search needs)
-    (λ c κs. search needs)
-    (λ c. simp (c .same-window .ensures, c .before .moved .ensures, c .before .before .starts-again .ensures)))
+    (λ c κs. search needs) (λ c κs. search needs)
+    (λ c. simp (c .same-window .ensures, c .before .starts-again .ensures, c .before .before .pre)))

@@ -10,4 +10,4 @@ statics-legal-spec =
     (λ c. search needs) (λ c κs. search needs) (λ c. search needs) (λ c κs. search needs) (λ c. search needs)
     (λ c κs. search needs) (λ c. search needs) (λ c κs. search needs) (λ c. search needs) (λ c κs. search needs)
     (λ c. search needs) (λ c κs. search needs) (λ c. search needs) (λ c. search needs)
-    (λ c. simp (c .in-range7 .ensures, c .before .in-range6 .ensures, c .before .before .in-range5 .ensures, c .before .before .before .in-range4 .ensures, c .before .before .before .before .in-range3 .ensures, c .before .before .before .before .before .capacities-legal .ensures, c .before .before .before .before .before .before .in-range2 .ensures, c .before .before .before .before .before .before .before .in-range .ensures)))
+    (λ c. simp (c .word-in-range7 .ensures, c .before .word-in-range6 .ensures, c .before .before .word-in-range5 .ensures, c .before .before .before .word-in-range4 .ensures, c .before .before .before .before .word-in-range3 .ensures, c .before .before .before .before .before .capacities-legal .ensures, c .before .before .before .before .before .before .word-in-range2 .ensures, c .before .before .before .before .before .before .before .word-in-range .ensures)))
