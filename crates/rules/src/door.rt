@@ -27,7 +27,7 @@ fn starts_again(c: Cause) -> bool
 }
 
 // What of an excess becomes N time.
-pub fn carried_over(c: Cause, excess: u64) -> u64
+pub(crate) fn carried_over(c: Cause, excess: u64) -> u64
     ensures { λ r. ⌜ r ≡ carriedBy c excess ⌝ }
 {
     match c {
@@ -58,7 +58,7 @@ fn is_staying(c: Cause, v: Window, next: Window) -> bool
 }
 
 // The state after a cause, for a set in window v. Where a caller writes the window down the compiler reads the table's entry ahead.
-pub fn go_from(v: Window, c: Cause, a: Attributes, s: State) -> State
+pub(crate) fn go_from(v: Window, c: Cause, a: Attributes, s: State) -> State
     requires { ⌜ s .window ≡ v ⌝ }
     ensures { λ r. ⌜ r ≡ going c a s ⌝ }
 {
