@@ -29,9 +29,6 @@ use Rattle.steps.specs.Commanded.{modeNo, answerOf}
 use Rattle.by_value.specs.OnSet.{statusOn, afterOn, answerOn, OnSet}
 use Rattle.by_value.proofs.Passed.{Fine, fine}
 
-pub not-named : _≡_ {A = Bool} false true → ⊥
-not-named h = let z : _≡_ {A = ℕ} 0 1 = ap (λ (b : Bool). if b then 1 else 0) h in omega arith
-
 pub latency-long : (r : Record) → length (latencyPage r) ≡ latencySize
 unfolding latencyPage
 latency-long r = length-place latencySize (latencyFields r)

@@ -5,6 +5,7 @@ pub mod door;
 ghost use mathlib.Core.Path.{_≡_};
 ghost use Prim.Native.Nat.{_+_};
 ghost use Rattle.record.specs.declared.Window.{Window};
+ghost use Rattle.rules.specs.Door.{going};
 ghost use Rattle.rules.specs.Rules.{noting, still, onlyInD, causeOfMode, configure, isEarly, onEntering, selecting, isOver, causeOver, recovering, leaving, charge, readEvent, writeEvent, excursionEvent, mediaRule, tick, clearingRead};
 use crate::changes::moved;
 use crate::door::carried_over;
@@ -72,17 +73,22 @@ pub fn keep_still(s: State) -> Effect
     note(s, no_events())
 }
 
-fn cause_of_mode(on: bool) -> Cause
-    ensures { λ r. ⌜ r ≡ causeOfMode on ⌝ }
+// Enable or disable. That each cause stands in the code lets the compiler read the table's columns ahead.
+fn go_by_mode(a: Attributes, s: State, on: bool) -> State
+    ensures { λ r. ⌜ r ≡ going (causeOfMode on) a s ⌝ }
 {
-    if on { Cause::Enable } else { Cause::Disable }
+    if on {
+        go(Cause::Enable, a, s)
+    } else {
+        go(Cause::Disable, a, s)
+    }
 }
 
 // Set Features 13h: enable or disable, with what it stores.
 pub fn set_mode(a: Attributes, s: State, on: bool, c: Config) -> Effect
     ensures { λ r. ⌜ r ≡ configure on c a s ⌝ }
 {
-    let mut t = go(cause_of_mode(on), a, s);
+    let mut t = go_by_mode(a, s, on);
     t.config = c;
     keep_still(t)
 }

@@ -1,6 +1,6 @@
 -- Demand 1: the number that is answered is that of the first of 01's rows that holds, and one of an item carried out where none does.
 use mathlib.Core.Path.{_≡_, refl, sym, ap, _∙_}
-use mathlib.Core.Bool.{Bool, true, false, not, _&&_, and-false}
+use mathlib.Core.Bool.{Bool, true, false, not, _&&_, and-false, false≢true}
 use mathlib.Core.List.{List, [], _∷_, _++_}
 use mathlib.Core.Option.{Option, none, some}
 use mathlib.Core.Logic.{_⊎_, ⊎-elim}
@@ -143,16 +143,14 @@ unfolding below
 named-below k c given room h none = same-below c (line true unknownNumber ∷ []) (below k c (length given) room none) (rw h)
 named-below k c given room h (some r) = same-below c (lateLines k c (length given) room (r .attributes) (r .state)) (below k c (length given) room (some r)) (rw (and-false (isNamed k)))
 
-named-not : true ≡ false → ⊥
-named-not h = let z : _≡_ {A = ℕ} 1 0 = ap (λ (b : Bool). if b then 1 else 0) h in omega arith
 
 -- the rows that look at the window look at no command that names no set
 no-window : (k : Kind) → isNamed k ≡ false → (shapeOf k .on ≡ false) × (shapeOf k .window ≡ false)
-no-window SetConfig h = absurd (named-not h)
-no-window SetWindow h = absurd (named-not h)
-no-window GetConfig h = absurd (named-not h)
-no-window GetWindow h = absurd (named-not h)
-no-window ReadLatency h = absurd (named-not h)
+no-window SetConfig h = absurd (false≢true (sym h))
+no-window SetWindow h = absurd (false≢true (sym h))
+no-window GetConfig h = absurd (false≢true (sym h))
+no-window GetWindow h = absurd (false≢true (sym h))
+no-window ReadLatency h = absurd (false≢true (sym h))
 no-window ReadAggregate h = (refl, refl)
 no-window Identify h = (refl, refl)
 

@@ -1,6 +1,6 @@
 -- A row is legal exactly where its words are what docs/LAYOUT.md says.
 use mathlib.Core.Path.{_≡_, refl, sym, ap, _∙_}
-use mathlib.Core.Bool.{Bool, true, false, not, _&&_, _||_, and-true, and-false}
+use mathlib.Core.Bool.{Bool, true, false, not, _&&_, _||_, and-true, and-false, false≢true}
 use mathlib.Core.List.{List, [], _∷_}
 use Prim.Native.Nat.{ℕ, zero, suc, _≤_}
 use native.Mathlib.Omega.{arith}
@@ -22,13 +22,10 @@ use Rattle.table.proofs.Records.{row-of}
 
 -- ---- a row whose words are legal is the words of its record
 
-false-true : false ≡ true → ⊥
-false-true h = let z : _≡_ {A = ℕ} 0 1 = ap bit h in omega arith
-
 mark-small : (n : ℕ) (b : Bool) → eqb n 0 || (eqb n 1 && b) ≡ true → n ≤ 1
 mark-small zero b h = omega arith
 mark-small (suc zero) b h = omega arith
-mark-small (suc (suc n)) b h = absurd (false-true (rw (ne-eqb (suc (suc n)) 0 (λ z. omega arith), ne-eqb (suc (suc n)) 1 (λ z. omega arith)) at h))
+mark-small (suc (suc n)) b h = absurd (false≢true (rw (ne-eqb (suc (suc n)) 0 (λ z. omega arith), ne-eqb (suc (suc n)) 1 (λ z. omega arith)) at h))
 
 window-held : (n : ℕ) → n ≤ 2 → windowNo (windowIn n) ≡ n
 window-held zero h = refl

@@ -10,27 +10,16 @@ pub charge-by-spec : {M : Type 1} → statement M
 charge-by-spec =
     tie.close
     (tie.spec
-    (λ c κs. search needs)
-    (λ c. search needs)
-    (λ c κs. search needs)
-    (λ c. search needs)
-    (λ c. search needs)
-    (λ c κs. search needs)
-    (λ c κs. search needs)
-    (λ c κs. search needs)
-    (λ c κs. search needs)
-    (λ c κs. search needs)
-    (λ c κs. search needs)
-    (λ c κs. search needs)
-    (λ c κs. search needs)
+    (λ c κs. search needs) (λ c. search needs) (λ c κs. search needs) (λ c. search needs) (λ c. search needs)
+    (λ c κs. search needs) (λ c κs. search needs) (λ c κs. search needs) (λ c κs. search needs) (λ c κs. search needs)
+    (λ c κs. search needs) (λ c κs. search needs) (λ c κs. search needs)
     (λ c.
     let f = c .before .before .before .before in
     let n = f .before .before in
     let m = n .before .before .before in
     let s = m .before .args in
     omega (arith, not-over (s .q) (m .limit-of .result) (n .spent-of .result + s .k) (sym (c .before .is-over .ensures) ∙ c .if1 .left), m .limit-of .ok))
-    (λ c κs. search needs)
-    (λ c κs. search needs)
+    (λ c κs. search needs) (λ c κs. search needs)
     (λ c.
     let t = c .before .before .before in
     let w = t .before .before in

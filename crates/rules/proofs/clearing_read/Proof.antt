@@ -6,6 +6,5 @@ pub clearing-read-spec : {M : Type 1} → statement M
 clearing-read-spec =
     tie.close
     (tie.spec
-    (λ c κs. search needs)
-    (λ c κs. search needs)
+    (λ c κs. search needs) (λ c κs. search needs)
     (λ c. simp (c .effect-of .ensures, c .before .no-events .ensures)))

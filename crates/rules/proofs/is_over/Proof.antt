@@ -6,9 +6,7 @@ pub is-over-spec : {M : Type 1} → statement M
 is-over-spec =
     tie.close
     (tie.spec
-    (λ c. search needs)
-    (λ c. search needs)
-    (λ c. search needs)
+    (λ c. search needs) (λ c. search needs) (λ c. search needs)
     (λ c. simp (c .enum-told .given .1))
     (λ c. simp (c .enum-told2 .given .1))
     (λ c. simp (c .enum-told3 .given .1)))

@@ -6,5 +6,5 @@ pub set-mode-spec : {M : Type 1} → statement M
 set-mode-spec =
     tie.close
     (tie.spec
-    (λ c κs. search needs) (λ c κs. search needs) (λ c κs. search needs)
-    (λ c. simp (c .keep-still .ensures, c .before .go .ensures, c .before .before .cause-of-mode .ensures)))
+    (λ c κs. search needs) (λ c κs. search needs)
+    (λ c. simp (c .keep-still .ensures, c .before .go-by-mode .ensures)))

@@ -1,7 +1,7 @@
 use mathlib.Core.Path.{refl, _∙_}
 use borrow.Author.Needs.{needs}
 use Rattle.replies.proofs.Answering.{no-data}
-use Rattle.by_value.proofs.OnOneSet.{not-named}
+use mathlib.Core.Bool.{false≢true}
 use Rattle.by_value.proofs.commanded.hand_by.Statement.{statement}
 use Rattle.by_value.proofs.commanded.hand_by.Tie as tie
 
@@ -32,7 +32,7 @@ hand-by-spec =
     (λ c. rw (c .before .before .before .before .enum-told5 .given .1) (c .before .before .hand-latency .ensures))
     (λ c.
     let e = c .before in
-    absurd (not-named (rw (e .enum-told6 .given .1) at (e .before .before .before .pre .0))))
+    absurd (false≢true (rw (e .enum-told6 .given .1) at (e .before .before .before .pre .0))))
     (λ c.
     let e = c .before in
-    absurd (not-named (rw (e .enum-told7 .given .1) at (e .before .before .before .pre .0)))))
+    absurd (false≢true (rw (e .enum-told7 .given .1) at (e .before .before .before .pre .0)))))

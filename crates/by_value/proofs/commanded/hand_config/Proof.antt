@@ -7,8 +7,7 @@ pub hand-config-spec : {M : Type 1} → statement M
 hand-config-spec =
     tie.close
     (tie.spec
-    (λ c κs. search needs) (λ c κs. search needs) (λ c κs. search needs)
-    (λ c. search needs)
+    (λ c κs. search needs) (λ c κs. search needs) (λ c κs. search needs) (λ c. search needs)
     (λ c.
     let o = c .before .before .before .before in
     let s = o .before .before .before .before .before in

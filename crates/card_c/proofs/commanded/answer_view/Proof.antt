@@ -1,6 +1,6 @@
 use mathlib.Core.Path.{sym, _∙_}
 use borrow.Author.Needs.{needs}
-use Rattle.by_value.proofs.OnOneSet.{not-named}
+use mathlib.Core.Bool.{false≢true}
 use Rattle.card_c.proofs.commanded.answer_view.Statement.{statement}
 use Rattle.card_c.proofs.commanded.answer_view.Tie as tie
 
@@ -22,19 +22,19 @@ answer-view-spec =
     (sym (e .enum-told7 .given .1) ∙ p .0, p .2))
     (λ c.
     let e = c .before in
-    absurd (not-named (sym (rw (e .enum-told .given .1) at (e .before .before .before .before .pre .1)))))
+    absurd (false≢true (sym (rw (e .enum-told .given .1) at (e .before .before .before .before .pre .1)))))
     (λ c.
     let e = c .before in
-    absurd (not-named (sym (rw (e .enum-told2 .given .1) at (e .before .before .before .before .pre .1)))))
+    absurd (false≢true (sym (rw (e .enum-told2 .given .1) at (e .before .before .before .before .pre .1)))))
     (λ c.
     let e = c .before in
-    absurd (not-named (sym (rw (e .enum-told3 .given .1) at (e .before .before .before .before .pre .1)))))
+    absurd (false≢true (sym (rw (e .enum-told3 .given .1) at (e .before .before .before .before .pre .1)))))
     (λ c.
     let e = c .before in
-    absurd (not-named (sym (rw (e .enum-told4 .given .1) at (e .before .before .before .before .pre .1)))))
+    absurd (false≢true (sym (rw (e .enum-told4 .given .1) at (e .before .before .before .before .pre .1)))))
     (λ c.
     let e = c .before in
-    absurd (not-named (sym (rw (e .enum-told5 .given .1) at (e .before .before .before .before .pre .1)))))
+    absurd (false≢true (sym (rw (e .enum-told5 .given .1) at (e .before .before .before .before .pre .1)))))
     (λ c. search needs)
     (λ c. rw (c .before .before .before .before .enum-told6 .given .1) (c .before .before .answer-aggregate .ensures))
     (λ c. search needs)

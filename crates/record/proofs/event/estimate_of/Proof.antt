@@ -8,15 +8,8 @@ pub estimate-of-spec : {M : Type 1} → statement M
 estimate-of-spec =
     tie.close
     (tie.spec
-    (λ c κs. search needs)
-    (λ c. search needs)
-    (λ c κs. search needs)
-    (λ c. search needs)
-    (λ c κs. search needs)
-    (λ c. search needs)
-    (λ c. search needs)
-    (λ c κs. search needs)
-    (λ c. search needs)
+    (λ c κs. search needs) (λ c. search needs) (λ c κs. search needs) (λ c. search needs) (λ c κs. search needs)
+    (λ c. search needs) (λ c. search needs) (λ c κs. search needs) (λ c. search needs)
     (λ c. simp (c .enum-told .given .1, c .before .before .need-of .ensures, c .before .before .before .spent-of .ensures, c .before .before .before .before .before .limit-of .ensures))
     (λ c. simp (c .floored .ensures, c .before .enum-told2 .given .1, c .before .before .before .need-of .ensures, c .before .before .before .before .spent-of .ensures, c .before .before .before .before .before .before .limit-of .ensures))
     (λ c. simp (eq-eqb _ _ (c .if1 .taken ∙ c .before .before .before .before .need-of .ensures), c .before .before .enum-told3 .given .1, c .before .before .before .before .need-of .ensures, c .before .before .before .before .before .spent-of .ensures, c .before .before .before .before .before .before .before .limit-of .ensures))
