@@ -1,15 +1,19 @@
 -- Words where they lie among bytes: one of them, a run of them, a run put back, and that what is put are bytes.
 use mathlib.Core.Path.{_≡_, refl, sym, ap, ap₂, _∙_}
 use mathlib.Core.List.{List, [], _∷_, _++_}
-use Prim.Native.Nat.{ℕ, zero, suc, _+_, _*_, _-_, _/_, _≤_, _<_}
+use mathlib.Core.Logic.{inl}
+use Prim.Native.Nat.{ℕ, zero, suc, _+_, _*_, _-_, _/_, _^_, _≤_, _<_}
 use native.Mathlib.Omega.{arith}
 use lib.Dec.{lit<}
 use lib.ListN.{length, getD, set, take, drop, length-take, length-drop, take-append-drop}
-use lib.Seq.{sets, drop-drop}
-use Rattle.octets.specs.Octets.{bytesOf, numberOf, part, AllBytes}
-use Rattle.octets.specs.Words.{wordSize, wordsFrom, putWords}
+use lib.Seq.{sets, length-sets, drop-drop}
+use Rattle.octets.specs.Octets.{bytesOf, numberOf, part, AllBelow, AllBytes}
+use Rattle.octets.specs.Words.{wordSize, AllWords, wordsFrom, putWords}
 use Rattle.octets.proofs.Runs.{sets-whole, sets-append}
-use Rattle.octets.proofs.WordBytes.{length-words, tail-bytes, words-append, own-words, put-append, put-rest}
+use Rattle.octets.proofs.Below.{below-rest, sets-below, Each, each-below}
+use Rattle.octets.proofs.Reading.{read-below}
+use Rattle.octets.proofs.PutAndGet.{get-put, get-other}
+use Rattle.octets.proofs.WordBytes.{length-words, words-append, own-words, put-append, put-rest}
 
 -- ---- reading
 
@@ -104,17 +108,6 @@ put-part xs b at m from to each long room order end before after =
 
 -- ---- bytes put are bytes
 
-set-bytes : (l : List ℕ) (i x : ℕ) → x < 256 → AllBytes l → AllBytes (set l i x)
-set-bytes [] i x h each j = each j
-set-bytes (a ∷ l) zero x h each zero = h
-set-bytes (a ∷ l) zero x h each (suc j) = each (suc j)
-set-bytes (a ∷ l) (suc i) x h each zero = each 0
-set-bytes (a ∷ l) (suc i) x h each (suc j) = set-bytes l i x h (tail-bytes a l each) j
-
-sets-bytes : (xs l : List ℕ) (i : ℕ) → AllBytes xs → AllBytes l → AllBytes (sets l i xs)
-sets-bytes [] l i every each = each
-sets-bytes (x ∷ xs) l i every each = sets-bytes xs (set l i x) (suc i) (tail-bytes x xs every) (set-bytes l i x (every 0) each)
-
 bytes-bytes : (n v : ℕ) → AllBytes (bytesOf n v)
 bytes-bytes zero v j = lit< tt
 bytes-bytes (suc n) v zero = omega arith
@@ -122,4 +115,30 @@ bytes-bytes (suc n) v (suc j) = bytes-bytes n (v / 256) j
 
 pub put-bytes : (ws b : List ℕ) (at : ℕ) → AllBytes b → AllBytes (putWords b at ws)
 put-bytes [] b at each = each
-put-bytes (w ∷ ws) b at each = put-bytes ws (sets b at (bytesOf wordSize w)) (at + wordSize) (sets-bytes (bytesOf wordSize w) b at (bytes-bytes wordSize w) each)
+put-bytes (w ∷ ws) b at each = put-bytes ws (sets b at (bytesOf wordSize w)) (at + wordSize) (sets-below 256 (bytesOf wordSize w) b at (bytes-bytes wordSize w) each)
+
+-- ---- words that are put are read back
+
+-- words put further on leave what lies before
+put-before : (ws y : List ℕ) (at d n : ℕ) → d + n ≤ at → part (putWords y at ws) d n ≡ part y d n
+put-before [] y at d n h = refl
+put-before (w ∷ ws) y at d n h =
+    put-before ws (sets y at (bytesOf wordSize w)) (at + wordSize) d n (omega arith)
+    ∙ get-other y at wordSize w d n (inl h)
+
+pub words-back : (ws y : List ℕ) (at : ℕ) → at + length ws * wordSize ≤ length y → AllWords ws → wordsFrom (putWords y at ws) at (length ws) ≡ ws
+words-back [] y at h fit = refl
+words-back (w ∷ ws) y at h fit =
+    let z = sets y at (bytesOf wordSize w) in
+    let long : length z ≡ length y = length-sets y at (bytesOf wordSize w) in
+    let first : numberOf (part (putWords z (at + wordSize) ws) at wordSize) ≡ w
+    = ap numberOf (put-before ws z (at + wordSize) at wordSize (omega arith)) ∙ get-put y at wordSize w (omega arith) (fit 0) in
+    cc (first, words-back ws z (at + wordSize) (omega (arith, long)) (below-rest (2 ^ 64) w ws fit))
+
+-- and the words that are read from bytes are words
+each-read : (b : List ℕ) → AllBytes b → (n at : ℕ) → Each (2 ^ 64) (wordsFrom b at n)
+each-read b each zero at = tt
+each-read b each (suc n) at = (read-below b each at wordSize, each-read b each n (at + wordSize))
+
+pub words-read : (b : List ℕ) → AllBytes b → (at n : ℕ) → AllWords (wordsFrom b at n)
+words-read b each at n = each-below (2 ^ 64) (lit< tt) (wordsFrom b at n) (each-read b each n at)

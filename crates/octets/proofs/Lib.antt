@@ -1,4 +1,5 @@
 pub mod JoinedTests
+pub mod Below
 pub mod Lists
 pub mod Runs
 pub mod Turns

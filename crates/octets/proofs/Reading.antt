@@ -2,12 +2,15 @@
 use mathlib.Core.Path.{_≡_, refl, ap, _∙_}
 use mathlib.Core.List.{List, [], _∷_}
 use Prim.Native.Nat.{ℕ, zero, suc, _+_, _^_, _≤_, _<_}
+use native.Mathlib.Nat.{one-le-pow}
 use native.Mathlib.Omega.{arith}
 use lib.ListN.{length, getD, take, drop}
-use lib.Seq.{drop-cons, take-take, drop-drop}
-use Rattle.octets.specs.Octets.{numberOf, part}
+use lib.Dec.{lit<}
+use lib.Seq.{drop-cons, take-take, drop-drop, getD-drop}
+use Rattle.octets.specs.Octets.{numberOf, part, AllBytes}
 use Rattle.octets.specs.Numbers.{numberAt}
 use Rattle.octets.proofs.Turns.{more}
+use Rattle.octets.proofs.Below.{below-rest}
 
 module _ (bytes : List ℕ) (each : (i : ℕ) → getD bytes i 0 < 256) where
   pub number-below : (at width : ℕ) → at + width ≤ length bytes → numberAt bytes at width < 256 ^ width
@@ -15,6 +18,15 @@ module _ (bytes : List ℕ) (each : (i : ℕ) → getD bytes i 0 < 256) where
   number-below at (suc width) h =
       let k : at < length bytes = omega arith in
       rw (drop-cons bytes at 0 k) (more width _ (getD bytes at 0) (number-below (suc at) width (omega arith)) (each at))
+
+-- the same wherever it lies: of bytes that are not there it has none
+taken-below : (w : ℕ) (l : List ℕ) → AllBytes l → numberOf (take w l) < 256 ^ w
+taken-below zero l each = omega arith
+taken-below (suc w) [] each = one-le-pow (suc w) 256 (lit< tt)
+taken-below (suc w) (b ∷ bs) each = more w _ b (taken-below w bs (below-rest 256 b bs each)) (each 0)
+
+pub read-below : (bytes : List ℕ) → AllBytes bytes → (at width : ℕ) → numberOf (part bytes at width) < 256 ^ width
+read-below bytes each at width = taken-below width (drop at bytes) (λ i. rw (getD-drop at bytes i 0) (each (at + i)))
 
 -- ---- a part of a part
 

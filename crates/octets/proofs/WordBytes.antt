@@ -12,6 +12,7 @@ use Rattle.octets.specs.Octets.{bytesOf, numberOf, part, AllBytes}
 use Rattle.octets.specs.Words.{wordSize, wordsFrom, putWords}
 use Rattle.octets.proofs.Runs.{sets-self, drop-sets}
 use Rattle.octets.proofs.PutAndGet.{length-bytes}
+use Rattle.octets.proofs.Below.{below-rest, part-below}
 
 -- a part, its first element apart
 part-cons : (l : List ℕ) (at n : ℕ) → at < length l → part l at (suc n) ≡ getD l at 0 ∷ part l (at + 1) n
@@ -74,9 +75,6 @@ out-end bytes words at i e = rw (e, drop-length)
 
 -- ---- bytes that are read as words, and put back
 
-pub tail-bytes : (b : ℕ) (bs : List ℕ) → AllBytes (b ∷ bs) → AllBytes bs
-tail-bytes b bs each i = each (suc i)
-
 -- the bytes of a number that bytes make are those bytes
 pub bytes-number : (l : List ℕ) (n : ℕ) → length l ≡ n → AllBytes l → bytesOf n (numberOf l) ≡ l
 bytes-number [] zero e each = refl
@@ -85,16 +83,7 @@ bytes-number (b ∷ bs) zero e each = absurd (omega arith)
 bytes-number (b ∷ bs) (suc n) e each =
     let low : (numberOf bs * 256 + b) % 256 ≡ b = omega (arith, each 0) in
     let high : (numberOf bs * 256 + b) / 256 ≡ numberOf bs = omega (arith, each 0) in
-    rw (low, high, bytes-number bs n (omega arith) (tail-bytes b bs each))
-
-take-bytes : (n : ℕ) (l : List ℕ) → AllBytes l → AllBytes (take n l)
-take-bytes zero l each i = lit< tt
-take-bytes (suc n) [] each i = lit< tt
-take-bytes (suc n) (b ∷ bs) each zero = each 0
-take-bytes (suc n) (b ∷ bs) each (suc i) = take-bytes n bs (tail-bytes b bs each) i
-
-part-bytes : (l : List ℕ) (at n : ℕ) → AllBytes l → AllBytes (part l at n)
-part-bytes l at n each = take-bytes n (drop at l) (λ i. rw (getD-drop at l i 0) (each (at + i)))
+    rw (low, high, bytes-number bs n (omega arith) (below-rest 256 b bs each))
 
 -- the words of bytes that two lists have in common from a place on, put back there, change nothing
 pub own-words :
@@ -106,7 +95,7 @@ own-words (suc n) at y l each e h =
     let whole : length (part l at wordSize) ≡ wordSize = simp (length-take, length-drop) (omega arith) in
     let same : part l at wordSize ≡ part y at wordSize = ap (take wordSize) (sym e) in
     let put : sets y at (bytesOf wordSize (numberOf (part l at wordSize))) ≡ y =
-    ap (sets y at) (bytes-number (part l at wordSize) wordSize whole (part-bytes l at wordSize each) ∙ same) ∙ sets-self y at wordSize room in
+    ap (sets y at) (bytes-number (part l at wordSize) wordSize whole (part-below 256 (lit< tt) l at wordSize each) ∙ same) ∙ sets-self y at wordSize room in
     let next : drop (at + wordSize) y ≡ drop (at + wordSize) l =
     sym (drop-drop wordSize at y) ∙ ap (drop wordSize) e ∙ drop-drop wordSize at l in
     ap (λ (z : List ℕ). putWords z (at + wordSize) (wordsFrom l (at + wordSize) n)) put

@@ -13,9 +13,13 @@ abbrev pub numberOf : List ℕ → ℕ
 numberOf [] = 0
 numberOf (b ∷ bs) = numberOf bs * 256 + b
 
--- each element of a list is a byte, as in any lent slice of them
+-- each element of a list is below a number
+abbrev pub AllBelow : ℕ → List ℕ → Type 0
+AllBelow most l = (i : ℕ) → getD l i 0 < most
+
+-- each is a byte, as in any lent slice of them
 abbrev pub AllBytes : List ℕ → Type 0
-AllBytes l = (i : ℕ) → getD l i 0 < 256
+AllBytes l = AllBelow 256 l
 
 -- n elements of a list from place `at`, as many as there are
 abbrev pub part : List ℕ → ℕ → ℕ → List ℕ

@@ -1,12 +1,16 @@
 -- Words of 64 bits as bytes, one after another: 01, "its words' little-endian bytes".
 use mathlib.Core.List.{List, [], _∷_}
-use Prim.Native.Nat.{ℕ, zero, suc, _+_}
+use Prim.Native.Nat.{ℕ, zero, suc, _+_, _^_}
 use lib.Seq.{sets}
-use Rattle.octets.specs.Octets.{bytesOf, numberOf, part}
+use Rattle.octets.specs.Octets.{bytesOf, numberOf, part, AllBelow}
 
 -- a word's bytes
 abbrev pub wordSize : ℕ
 wordSize = 8
+
+-- each element of a list is a word, as in any lent slice of them
+abbrev pub AllWords : List ℕ → Type 0
+AllWords l = AllBelow (2 ^ 64) l
 
 -- n words from a place on
 abbrev pub wordsFrom : List ℕ → ℕ → ℕ → List ℕ

@@ -11,7 +11,7 @@ use lib.ListN.{length, getD}
 use lib.Seq.{sets}
 use borrow.Author.Tests.{leb-true}
 use Rattle.octets.specs.Choice.{if_then_else_}
-use Rattle.octets.specs.Octets.{part}
+use Rattle.octets.specs.Octets.{part, AllBytes}
 use Rattle.octets.specs.declared.Place.{Place}
 use Rattle.octets.specs.Pages.{readAt, Fit, readings, values}
 use Rattle.octets.proofs.JoinedTests.{and-left, and-right}
@@ -39,7 +39,7 @@ use Rattle.pages.specs.Bodies.{bodySize, bodyId, bodyGroup, bodyRandomRe
 use Rattle.pages.specs.Latency.{latencySize, latencyFields, latencyPage}
 use Rattle.pages.specs.Features.{featureSize, configReads, configWrites, configTime, configFields, configPage, configIn, Words}
 use Rattle.octets.proofs.Pages.{length-place}
-use Rattle.octets.proofs.Reading.{number-below, number-within}
+use Rattle.octets.proofs.Reading.{read-below, number-within}
 
 -- ---- set-up bodies
 
@@ -204,12 +204,12 @@ config-back c w =
     (ap configBy (read-back featureSize (configFields c) refl (bits-small (c .enabled), (w .reads, (w .writes, (w .time, tt))))))
 
 -- what is read from bytes fits
-pub read-words : (bytes : List ℕ) → ((i : ℕ) → getD bytes i 0 < 256) → featureSize ≤ length bytes → Words (configIn bytes .thresholds)
-read-words bytes each room =
+pub read-words : (bytes : List ℕ) → AllBytes bytes → Words (configIn bytes .thresholds)
+read-words bytes each =
     record {
-      reads = number-below bytes each (configReads .at) (configReads .width) (omega arith);
-      writes = number-below bytes each (configWrites .at) (configWrites .width) (omega arith);
-      time = number-below bytes each (configTime .at) (configTime .width) (omega arith);
+      reads = read-below bytes each (configReads .at) (configReads .width);
+      writes = read-below bytes each (configWrites .at) (configWrites .width);
+      time = read-below bytes each (configTime .at) (configTime .width);
     }
 
 -- ---- log page 0Ah

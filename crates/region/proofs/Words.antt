@@ -5,9 +5,9 @@ use Prim.Native.Nat.{ℕ, _+_, _*_, _-_, _/_, _≤_, _<_}
 use native.Mathlib.Omega.{arith}
 use lib.ListN.{length, getD, take, drop, drop-of-length-le}
 use Rattle.octets.specs.Octets.{numberOf, part, AllBytes}
-use Rattle.octets.specs.Words.{wordSize, wordsFrom, putWords}
-use Rattle.octets.proofs.WordBytes.{length-words, own-words}
-use Rattle.octets.proofs.InPlace.{word-of, first-words, later-words, rest-words, put-within, put-part}
+use Rattle.octets.specs.Words.{wordSize, AllWords, wordsFrom, putWords}
+use Rattle.octets.proofs.WordBytes.{length-words, own-words, length-put-words}
+use Rattle.octets.proofs.InPlace.{words-back, words-read, word-of, first-words, later-words, rest-words, put-within, put-part}
 use Rattle.table.specs.Layout.{rowWords}
 use Rattle.table.specs.Table.{rowStart, row, put}
 use Rattle.table.proofs.Slots.{length-row}
@@ -64,3 +64,13 @@ row-ends b xs slot n h =
 -- a region's own words, put back
 pub own-region : (b : List ℕ) → AllBytes b → tableOut b (tableIn b) ≡ b
 own-region b each = own-words (length b / wordSize) 0 b b each refl (omega arith)
+
+-- other words, put there and read again: as many as the region has, and each a word
+pub table-back : (b ws : List ℕ) → length ws ≡ length b / wordSize → AllWords ws → tableIn (tableOut b ws) ≡ ws
+table-back b ws e fit =
+    let long : length (putWords b 0 ws) ≡ length b = length-put-words ws b 0 in
+    ap (λ (n : ℕ). wordsFrom (putWords b 0 ws) 0 (n / wordSize)) long
+    ∙ ap (wordsFrom (putWords b 0 ws) 0) (sym e) ∙ words-back ws b 0 (omega arith) fit
+
+pub words-in : (b : List ℕ) → AllBytes b → AllWords (tableIn b)
+words-in b each = words-read b each 0 (length b / wordSize)

@@ -143,7 +143,6 @@ unfolding below
 named-below k c given room h none = same-below c (line true unknownNumber ∷ []) (below k c (length given) room none) (rw h)
 named-below k c given room h (some r) = same-below c (lateLines k c (length given) room (r .attributes) (r .state)) (below k c (length given) room (some r)) (rw (and-false (isNamed k)))
 
-
 -- the rows that look at the window look at no command that names no set
 no-window : (k : Kind) → isNamed k ≡ false → (shapeOf k .on ≡ false) × (shapeOf k .window ≡ false)
 no-window SetConfig h = absurd (false≢true (sym h))

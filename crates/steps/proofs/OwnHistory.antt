@@ -1,25 +1,41 @@
 -- Demand 3. Of the items' meanings nothing is used but their shape.
 use mathlib.Core.Path.{_≡_, refl, sym, ap, _∙_}
-use mathlib.Core.Bool.{Bool, true, false, not, _&&_, _||_, or-false}
+use mathlib.Core.Bool.{Bool, true, false, not, _&&_, _||_, or-false, false≢true}
 use mathlib.Core.List.{List, [], _∷_, _++_, map, map-map, append-nil}
 use mathlib.Core.Option.{some}
 use mathlib.Core.Logic.{_⊎_, ⊎-elim}
-use Prim.Native.Nat.{ℕ, _≤_, _<_}
+use Prim.Native.Nat.{ℕ, _+_, _≤_, _<_}
 use native.Mathlib.Omega.{arith}
-use borrow.Author.Tests.{eqb-true, eq-eqb, ne-eqb}
+use borrow.Author.Tests.{eqb-true, eq-eqb, ne-eqb, not-true}
 use lib.Dec.{eqb}
 use lib.ListN.{length, length-map}
 use Rattle.octets.specs.Choice.{if_then_else_}
+use Rattle.octets.proofs.JoinedTests.{both}
+use Rattle.record.specs.declared.Attributes.{Attributes}
+use Rattle.record.specs.declared.Window.{Window}
+use Rattle.record.specs.declared.Window.the-variants.{Off, D, N}
+use Rattle.record.specs.declared.Quantity.the-variants.{Time}
+use Rattle.record.specs.declared.State.{State}
+use Rattle.record.specs.declared.Effect.{Effect}
 use Rattle.record.specs.declared.Record.{Record}
+use Rattle.record.specs.Quantities.{limit, spentOf}
+use Rattle.record.specs.Windows.{byWindow}
+use Rattle.rules.specs.Rules.{isOver}
+use Rattle.commands.specs.declared.Command.{Command}
+use Rattle.commands.specs.declared.Kind.{Kind}
+use Rattle.commands.specs.declared.Kind.the-variants.{SetConfig, SetWindow, GetConfig, GetWindow, ReadLatency, ReadAggregate, Identify}
+use Rattle.commands.specs.Commands.{commandIn}
+use Rattle.commands.specs.Shapes.{kindOf}
 use Rattle.record.specs.Parts.{idOf}
 use Rattle.replies.specs.Answers.{granted, refused}
 use Rattle.table.specs.Table.{legalSets, listedMarks}
 use Rattle.pages.specs.Aggregate.{picked}
 use Rattle.octets.specs.Lists.{nth, first, keep, beside, join}
-use Rattle.steps.specs.Items.{Card, Item, All, Meaning, Nobody, Everybody, The}
+use Rattle.steps.specs.Items.{Card, Item, reads, writes, excursion, tick, command, All, Meaning, Nobody, Everybody, The}
+use Rattle.steps.specs.Commanded.{meaningBy, commandMeaning}
 use Rattle.steps.specs.Meanings.{meaning}
-use Rattle.steps.specs.Card.{refusalAll, refusalBy, refusalOf, effectOn, ruled, has, names, namesBy, concerns, concernsBy, touched, after, answer, run, trace}
-use Rattle.steps.specs.Demands.{alone, toAllBy, toAll, owns, own, OwnRecord, lived, ByRules, OwnAnswers, Joined, raises, noneCleared, raised, pending, Listed, PickedIds, Aggregate, Rising, InOrder, Swap, SwapWithin}
+use Rattle.steps.specs.Card.{refusalAll, refusalBy, refusalOf, effectBy, effectOn, ruled, has, names, namesBy, concerns, concernsBy, touched, after, answer, run, trace}
+use Rattle.steps.specs.Demands.{alone, toAllBy, toAll, owns, own, OwnRecord, lived, ByRules, OwnAnswers, Joined, raises, noneCleared, raised, pending, noneOf, Listed, StaysListed, PickedIds, Aggregate, Rising, InOrder, Swap, SwapWithin}
 use Rattle.octets.proofs.Lists.{if-ap, if-cons, map-id, map-same, map-same-if, nth-map, keep-same, keep-map, first-map, first-fixed}
 use Rattle.steps.proofs.ItemShapes.{bool-cases, named, unnamed, answers, fewer-all, fewer, touched-own, touched-not, keeps}
 use Rattle.steps.proofs.Slots.{ordered, found}
@@ -179,6 +195,62 @@ pub listed : Listed
 listed c is =
     rw (run-sets is c)
     (keep-map idOf (passed (length (c .sets)) is) (λ r. r .notes .listed) _ (passed-id _ is) (λ r. listed-own (length (c .sets)) is r ∙ ap (pending r) (sym (own-is c r is))) (c .sets))
+
+-- ---- a set that is listed stays so
+
+-- no item that goes to every set is a clearing read
+abbrev NoClear : Meaning → Type 0
+NoClear (Nobody v) = Unit {0}
+NoClear (Everybody e) = (a : Attributes) (s : State) → e .rule a s .clears ≡ false
+NoClear (The named o) = Unit {0}
+
+by-kind-clear : (k : Kind) (c : Command) (given : List ℕ) (room : ℕ) → NoClear (meaningBy k c given room)
+by-kind-clear SetConfig c given room = tt
+by-kind-clear SetWindow c given room = tt
+by-kind-clear GetConfig c given room = tt
+by-kind-clear GetWindow c given room = tt
+by-kind-clear ReadLatency c given room = tt
+by-kind-clear ReadAggregate c given room = tt
+by-kind-clear Identify c given room = tt
+
+charge-clear : (b : Bool) (e f : Effect) → e .clears ≡ false → f .clears ≡ false → (if b then e else f) .clears ≡ false
+charge-clear true e f p q = p
+charge-clear false e f p q = q
+
+tick-clear : (w : Window) (e f g : Effect) → e .clears ≡ false → f .clears ≡ false → g .clears ≡ false → byWindow w e f g .clears ≡ false
+tick-clear Off e f g p q r = p
+tick-clear D e f g p q r = q
+tick-clear N e f g p q r = r
+
+no-clear : (i : Item) → NoClear (meaning i)
+unfolding meaning commandMeaning
+no-clear (reads id k) = tt
+no-clear (writes id k) = tt
+no-clear (excursion id) = tt
+no-clear (tick t room) = λ a s. tick-clear (s .window) _ _ _ refl (charge-clear (isOver Time (limit Time a) (spentOf Time (s .spent) + t)) _ _ refl refl) refl
+no-clear (command bytes given room) = by-kind-clear (kindOf (commandIn bytes)) (commandIn bytes) given room
+
+unnamed-clear : (m : Meaning) (n id : ℕ) → NoClear m → namesBy m id ≡ false → concernsBy m n id ≡ true → (a : Attributes) (s : State) → effectBy m a s .clears ≡ false
+unnamed-clear (Nobody v) n id k e h a s = absurd (false≢true h)
+unnamed-clear (Everybody x) n id k e h a s = k a s
+unnamed-clear (The named o) n id k e h a s = absurd (false≢true (sym e ∙ h))
+
+still-listed : (n : ℕ) (i : Item) (r : Record) → r .notes .listed ≡ true → names (idOf r) i ≡ false → touched n i r .notes .listed ≡ true
+unfolding names concerns effectOn
+still-listed n i r l e =
+    ⊎-elim
+    (λ h. rw (touched-own n i r h, unnamed-clear (meaning i) n (idOf r) (no-clear i) e h (r .attributes) (r .state), l))
+    (λ h. rw (touched-not n i r h) l)
+    (bool-cases (concerns n (idOf r) i))
+
+unlost : (n : ℕ) (is : List Item) (r : Record) → r .notes .listed ≡ true → noneOf (names (idOf r)) is ≡ true → passed n is r .notes .listed ≡ true
+unlost n [] r l h = l
+unlost n (i ∷ is) r l h =
+    let p = both (not (names (idOf r) i)) _ h in
+    unlost n is (touched n i r) (still-listed n i r l (not-true (names (idOf r) i) (p .0))) (rw (keeps n i r) (p .1))
+
+pub stays-listed : StaysListed
+stays-listed c is k r e l h = rw (run-sets is c, nth-map, nth-map, e) (ap some (unlost (length (c .sets)) is r l h))
 
 pick-keep : (rs : List Record) → picked (map idOf rs) (listedMarks rs) ≡ map idOf (keep (λ r. r .notes .listed) rs)
 pick-keep [] = refl

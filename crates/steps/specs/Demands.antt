@@ -14,6 +14,7 @@ use lib.Dec.{eqb}
 use lib.ListN.{length}
 use Rattle.octets.specs.Choice.{if_then_else_}
 use Rattle.octets.specs.Octets.{padded}
+use Rattle.octets.specs.Words.{AllWords}
 use Rattle.record.specs.declared.Attributes.{Attributes}
 use Rattle.record.specs.declared.State.{State}
 use Rattle.record.specs.declared.Record.{Record}
@@ -26,7 +27,7 @@ use Rattle.table.specs.Table.{legalSets, legalTable, written, listedMarks, reco
 use Rattle.pages.specs.Features.{configIn, configPage}
 use Rattle.pages.specs.Aggregate.{picked, aggregatePage}
 use Rattle.octets.specs.Lists.{nth, keep, beside, join}
-use Rattle.steps.specs.Items.{Card, Item, reads, writes, excursion, tick, command, itemOf, All, View, Meaning, Nobody, Everybody, The}
+use Rattle.steps.specs.Items.{Card, Item, reads, writes, excursion, tick, command, GivenBytes, itemOf, All, View, Meaning, Nobody, Everybody, The}
 use Rattle.commands.specs.declared.Kind.{Kind}
 use Rattle.commands.specs.declared.Kind.the-variants.{SetConfig, SetWindow, GetConfig, GetWindow, ReadAggregate, Identify}
 use Rattle.commands.specs.Commands.{dwordSize, commandIn, featureSet, enable, windowValue, offset, dwords}
@@ -171,6 +172,11 @@ Joined =
     (c : Card) (items : List Item) (i : Item) (a : All) → meaning i ≡ Everybody a → answer (run c items) i .status ≡ 0
     → answer (run c items) i .bytes ≡ join (map (λ r. answer (run (alone r) (own c r items)) i .bytes) (c .sets))
 
+-- no item of a list passes a test
+abbrev pub noneOf : (Item → Bool) → List Item → Bool
+noneOf p [] = true
+noneOf p (i ∷ is) = not (p i) && noneOf p is
+
 -- ---- "The aggregate log then lists, rising, exactly the sets whose own history holds an event that was enabled when it
 -- happened, or a listing at the start, with no successful clearing read since."
 -- The history is told by a set's attributes and state. The listed mark is asked for at the start only.
@@ -202,6 +208,12 @@ pendingIds c items = map idOf (keep (λ r. pending r (own c r items)) (c .sets))
 -- "exactly the sets"
 abbrev pub Listed : Type 0
 Listed = (c : Card) (items : List Item) → map idOf (keep (λ r. r .notes .listed) (run c items .sets)) ≡ pendingIds c items
+
+-- So the notice of one set is never lost to another: a set that is listed stays so, whatever items come that do not name it.
+abbrev pub StaysListed : Type 0
+StaysListed =
+    (c : Card) (items : List Item) (k : ℕ) (r : Record) → nth k (c .sets) ≡ some r → r .notes .listed ≡ true
+    → noneOf (names (idOf r)) items ≡ true → nth k (listedMarks (run c items .sets)) ≡ some true
 
 -- the same of the identifiers that page 0Bh is made of
 abbrev pub PickedIds : Type 0
@@ -258,11 +270,6 @@ SwapWithin =
 
 -- ==== demand 2: "What Set Features stores, Get Features hands back."
 
--- no item of a list passes a test
-abbrev pub noneOf : (Item → Bool) → List Item → Bool
-noneOf p [] = true
-noneOf p (i ∷ is) = not (p i) && noneOf p is
-
 -- ---- 13h
 
 abbrev pub stores13 : Kind → Bool
@@ -314,6 +321,10 @@ runWords ws (i ∷ is) = runWords (stepWords ws i .table) is
 abbrev pub traceWords : List ℕ → List Item → List Answer
 traceWords ws [] = []
 traceWords ws (i ∷ is) = stepWords ws i .answer ∷ traceWords (stepWords ws i .table) is
+
+-- a table of words stays one, where the data in of its items is bytes
+abbrev pub WordsStay : Type 0
+WordsStay = (ws : List ℕ) (i : Item) → legalTable ws ≡ true → AllWords ws → GivenBytes i → AllWords (stepWords ws i .table)
 
 -- a legal table stays legal, holds the sets of the card's run, and has no other word changed
 pub record RanWords (ws : List ℕ) (items : List Item) : Type 0 where

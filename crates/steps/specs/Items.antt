@@ -1,6 +1,7 @@
 -- Items, and the three shapes that an item's meaning can have.
 use Prim.Native.Nat.{ℕ}
 use mathlib.Core.List.{List}
+use Rattle.octets.specs.Octets.{AllBytes}
 use Rattle.record.specs.declared.Attributes.{Attributes}
 use Rattle.record.specs.declared.State.{State}
 use Rattle.record.specs.declared.Record.{Record}
@@ -19,6 +20,14 @@ pub data Item : Type 0 where
   excursion : (id : ℕ) → Item
   tick : (t room : ℕ) → Item
   command : (bytes given : List ℕ) (room : ℕ) → Item
+
+-- what is lent as bytes holds bytes, as its type says: an item's data in
+abbrev pub GivenBytes : Item → Type 0
+GivenBytes (reads id k) = Unit {0}
+GivenBytes (writes id k) = Unit {0}
+GivenBytes (excursion id) = Unit {0}
+GivenBytes (tick t room) = Unit {0}
+GivenBytes (command bytes given room) = AllBytes given
 
 -- what the media layer reports of a set, as an item
 abbrev pub itemOf : ℕ → Media → Item

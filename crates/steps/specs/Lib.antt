@@ -7,3 +7,4 @@ pub mod Words
 pub mod SetUp
 pub mod Order
 pub mod Demands
+pub mod Holders

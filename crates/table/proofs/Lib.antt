@@ -3,6 +3,7 @@ pub mod HeldWords
 pub mod Records
 pub mod Slots
 pub mod LegalTables
+pub mod WordsFit
 pub mod Turns
 pub mod Written
 pub mod PastTheTable

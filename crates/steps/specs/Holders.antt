@@ -1,0 +1,153 @@
+-- Demand 3 at the place where users call: said once, of anything that holds a card and takes items, and of any calls to it, one after
+-- another. What is supposed of a call is only what its function promises; no run of the step stands in a hypothesis.
+use mathlib.Core.Path.{_≡_}
+use mathlib.Core.Bool.{Bool, true, false}
+use mathlib.Core.List.{List, [], _∷_, _++_, map}
+use mathlib.Core.Option.{some}
+use Prim.Native.Nat.{ℕ, _*_}
+use lib.ListN.{length}
+use Rattle.octets.specs.Octets.{padded}
+use Rattle.octets.specs.Lists.{nth, keep, beside}
+use Rattle.record.specs.declared.Record.{Record}
+use Rattle.record.specs.Parts.{idOf}
+use Rattle.replies.specs.Answers.{Answer, granted}
+use Rattle.table.specs.Table.{recordsOf, legalTable, listedMarks}
+use Rattle.pages.specs.Aggregate.{aggregatePage}
+use Rattle.commands.specs.declared.Kind.the-variants.{ReadAggregate}
+use Rattle.commands.specs.Commands.{dwordSize, commandIn, offset, dwords}
+use Rattle.commands.specs.Shapes.{kindOf}
+use Rattle.steps.specs.Items.{Item, command}
+use Rattle.steps.specs.Card.{names, trace}
+use Rattle.steps.specs.Words.{cardOf, stepWords}
+use Rattle.steps.specs.Demands.{alone, own, lived, pendingIds, Rising, noneOf}
+
+-- What holds a card and takes items.
+pub record Holder : Type 1 where
+  -- what it holds from call to call, what a call is lent, and what the call hands back
+  pub Held : Type 0
+  pub Lent : Type 0
+  pub Back : Type 0
+  -- the words that hold the card, and what is held with other words in their place
+  pub words : Held → List ℕ
+  pub with-words : Held → List ℕ → Held
+  -- the item that a call is, how an answer to it is handed back, and the status number in that
+  pub item : Lent → Item
+  pub shows : Lent → Answer → Back
+  pub status : Back → ℕ
+  -- what is promised of a call, from what was held before it to what is held after
+  pub Call : Held → Lent → Back → Held → Type 0
+
+-- a call that was made: what it was lent, what it handed back, and what was held after it
+pub record Called (H : Holder) : Type 0 where
+  pub lent : H .Lent
+  pub back : H .Back
+  pub held : H .Held
+
+-- "any sequence of items, refused ones included": calls that were made, each on what the one before has left
+abbrev pub History : (H : Holder) → H .Held → List (Called H) → Type 0
+History H h [] = Unit {0}
+History H h (c ∷ cs) = H .Call h (c .lent) (c .back) (c .held) × History H (c .held) cs
+
+-- what is held after them
+abbrev pub last : (H : Holder) → H .Held → List (Called H) → H .Held
+last H h [] = h
+last H h (c ∷ cs) = last H (c .held) cs
+
+abbrev pub items : (H : Holder) → List (Called H) → List Item
+items H cs = map (λ (c : Called H). H .item (c .lent)) cs
+
+abbrev pub lents : (H : Holder) → List (Called H) → List (H .Lent)
+lents H cs = map (λ (c : Called H). c .lent) cs
+
+abbrev pub backs : (H : Holder) → List (Called H) → List (H .Back)
+backs H cs = map (λ (c : Called H). c .back) cs
+
+-- how answers are handed back, one to each call
+abbrev pub shown : (H : Holder) → List (H .Lent) → List Answer → List (H .Back)
+shown H [] answers = []
+shown H (l ∷ ls) [] = []
+shown H (l ∷ ls) (a ∷ answers) = H .shows l a ∷ shown H ls answers
+
+-- the calls that name a set
+abbrev pub naming : (H : Holder) → ℕ → List (Called H) → List (Called H)
+naming H id cs = keep (λ (c : Called H). names id (H .item (c .lent))) cs
+
+-- one list with two neighbours in each other's place
+pub record Exchanged {A : Type 0} (xs ys : List A) : Type 0 where
+  pub before : List A
+  pub one : A
+  pub other : A
+  pub later : List A
+  pub first-way : xs ≡ before ++ one ∷ other ∷ later
+  pub second-way : ys ≡ before ++ other ∷ one ∷ later
+
+-- ---- demand 3, of a holder: "Start from any legal table .."
+
+module _ (H : Holder) where
+  abbrev pub StaysLegal : Type 0
+  StaysLegal = (h : H .Held) (cs : List (Called H)) → legalTable (H .words h) ≡ true → History H h cs → legalTable (H .words (last H h cs)) ≡ true
+
+  -- "For each set, its record .. [is] reached under demand 2's rules by that set alone, from its starting record and the items naming
+  -- it and the ticks, in their order."
+  abbrev pub OwnRecords : Type 0
+  OwnRecords =
+      (h : H .Held) (cs : List (Called H)) (k : ℕ) (r : Record) → legalTable (H .words h) ≡ true → History H h cs
+      → nth k (recordsOf (H .words h)) ≡ some r
+      → nth k (recordsOf (H .words (last H h cs))) ≡ some (lived r (own (cardOf (H .words h)) r (items H cs)))
+
+  -- "and the answers to items naming it"
+  abbrev pub OwnAnswersBack : Type 0
+  OwnAnswersBack =
+      (h : H .Held) (cs : List (Called H)) (k : ℕ) (r : Record) → legalTable (H .words h) ≡ true → History H h cs
+      → nth k (recordsOf (H .words h)) ≡ some r
+      → let its = own (cardOf (H .words h)) r (items H cs) in
+      backs H (naming H (idOf r) cs) ≡ shown H (lents H (naming H (idOf r) cs)) (beside (names (idOf r)) its (trace (alone r) its))
+
+  -- "The aggregate log then lists, rising, exactly the sets whose own history holds an event that was enabled when it happened, or a
+  -- listing at the start, with no successful clearing read since": one more call, a read of page 0Bh that succeeds
+  abbrev pub AggregateBack : Type 0
+  AggregateBack =
+      (h : H .Held) (cs : List (Called H)) (d : Called H) (bytes given : List ℕ) (room : ℕ) → legalTable (H .words h) ≡ true → History H h cs
+      → H .Call (last H h cs) (d .lent) (d .back) (d .held) → H .item (d .lent) ≡ command bytes given room
+      → kindOf (commandIn bytes) ≡ ReadAggregate → H .status (d .back) ≡ 0
+      → let ids = pendingIds (cardOf (H .words h)) (items H cs) in
+      (d .back ≡ H .shows (d .lent) (granted 0 (padded (aggregatePage ids) (offset (commandIn bytes)) (dwords (commandIn bytes) * dwordSize))))
+      × Rising 0 ids
+
+  -- The notice of one set is never lost to another: a set that is listed stays so, whatever calls are made that do not name it.
+  abbrev pub NeverLost : Type 0
+  NeverLost =
+      (h : H .Held) (cs : List (Called H)) (k : ℕ) (r : Record) → legalTable (H .words h) ≡ true → History H h cs
+      → nth k (recordsOf (H .words h)) ≡ some r → r .notes .listed ≡ true → noneOf (names (idOf r)) (items H cs) ≡ true
+      → nth k (listedMarks (recordsOf (H .words (last H h cs)))) ≡ some true
+
+  -- "So two neighbouring items that name different sets may change places, and no record and no answer changes with them": all that
+  -- is held is the same, and all that is handed back
+  abbrev pub SwapsBack : Type 0
+  SwapsBack =
+      (h : H .Held) (cs ds : List (Called H)) (before : List (H .Lent)) (i j : H .Lent) (later : List (H .Lent)) (a b : ℕ)
+      → legalTable (H .words h) ≡ true → History H h cs → History H h ds
+      → lents H cs ≡ before ++ i ∷ j ∷ later → lents H ds ≡ before ++ j ∷ i ∷ later
+      → names a (H .item i) ≡ true → names b (H .item j) ≡ true → (a ≡ b → ⊥)
+      → (last H h cs ≡ last H h ds) × Exchanged (backs H cs) (backs H ds)
+
+-- All of it, under one name.
+pub record Demand3 (H : Holder) : Type 0 where
+  pub stays-legal : StaysLegal H
+  pub own-records : OwnRecords H
+  pub own-answers-back : OwnAnswersBack H
+  pub aggregate-back : AggregateBack H
+  pub never-lost : NeverLost H
+  pub swaps-back : SwapsBack H
+
+-- What is asked of a holder for that: each call goes by the step on the words that it holds.
+pub record Steps (H : Holder) : Type 0 where
+  pub after :
+      (h : H .Held) (l : H .Lent) (b : H .Back) (g : H .Held) → legalTable (H .words h) ≡ true → H .Call h l b g
+      → g ≡ H .with-words h (stepWords (H .words h) (H .item l) .table)
+  pub words-after :
+      (h : H .Held) (l : H .Lent) (b : H .Back) (g : H .Held) → legalTable (H .words h) ≡ true → H .Call h l b g
+      → H .words g ≡ stepWords (H .words h) (H .item l) .table
+  pub said : (h : H .Held) (l : H .Lent) (b : H .Back) (g : H .Held) → H .Call h l b g → b ≡ H .shows l (stepWords (H .words h) (H .item l) .answer)
+  pub told : (l : H .Lent) (a : Answer) → H .status (H .shows l a) ≡ a .status
+  pub put-over : (h : H .Held) (ws vs : List ℕ) → length ws ≡ length vs → H .with-words (H .with-words h ws) vs ≡ H .with-words h vs
