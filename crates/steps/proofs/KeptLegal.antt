@@ -74,7 +74,7 @@ effect-keeps : (i : Item) → KeepsState (effectOn i)
 unfolding effectOn
 effect-keeps i = effect-kept (meaning i) (sound i)
 
-touched-kept : (n : ℕ) (i : Item) (r : Record) → legalRecord r ≡ true → legalRecord (touched n i r) ≡ true
+pub touched-kept : (n : ℕ) (i : Item) (r : Record) → legalRecord r ≡ true → legalRecord (touched n i r) ≡ true
 touched-kept n i r h =
     ⊎-elim
     (λ e. rw (touched-own n i r e) (keeps-record (effectOn i) (effect-keeps i) r h))

@@ -14,3 +14,5 @@ pub mod IdleBuilds
 pub mod NamedItems
 pub mod PastTheTable
 pub mod Order
+pub mod WordsStay
+pub mod HeldHistories

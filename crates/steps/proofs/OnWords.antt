@@ -73,7 +73,7 @@ written-over ws c d e =
 table-words : (ws : List ℕ) (i : Item) → legalTable ws ≡ true → stepWords ws i .table ≡ written ws (after (cardOf ws) i)
 table-words ws i e = rw (step-legal ws i e)
 
-answer-words : (ws : List ℕ) (i : Item) → legalTable ws ≡ true → stepWords ws i .answer ≡ answer (cardOf ws) i
+pub answer-words : (ws : List ℕ) (i : Item) → legalTable ws ≡ true → stepWords ws i .answer ≡ answer (cardOf ws) i
 answer-words ws i e = rw (step-legal ws i e)
 
 pub words-run : WordsRun
