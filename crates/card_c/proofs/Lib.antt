@@ -2,3 +2,4 @@ pub mod Region
 pub mod Refusals
 pub mod Filling
 pub mod Replies
+pub mod HeldByC

@@ -1,3 +1,4 @@
 pub mod Entries
 pub mod InPlace
 pub mod Demands
+pub mod HeldByC

@@ -9,10 +9,10 @@ use lib.ListN.{length, getD, set, take, drop, length-take, length-drop, take-app
 use lib.Seq.{sets, length-sets, drop-drop}
 use Rattle.octets.specs.Octets.{bytesOf, numberOf, part, AllBelow, AllBytes}
 use Rattle.octets.specs.Words.{wordSize, AllWords, wordsFrom, putWords}
-use Rattle.octets.proofs.Runs.{sets-whole, sets-append}
+use Rattle.octets.proofs.Runs.{sets-whole, sets-append, sets-comm, sets-over}
 use Rattle.octets.proofs.Below.{below-rest, sets-below, Each, each-below}
 use Rattle.octets.proofs.Reading.{read-below}
-use Rattle.octets.proofs.PutAndGet.{get-put, get-other}
+use Rattle.octets.proofs.PutAndGet.{length-bytes, get-put, get-other}
 use Rattle.octets.proofs.WordBytes.{length-words, words-append, own-words, put-append, put-rest}
 
 -- ---- reading
@@ -142,3 +142,22 @@ each-read b each (suc n) at = (read-below b each at wordSize, each-read b each n
 
 pub words-read : (b : List ℕ) → AllBytes b → (at n : ℕ) → AllWords (wordsFrom b at n)
 words-read b each at n = each-below (2 ^ 64) (lit< tt) (wordsFrom b at n) (each-read b each n at)
+
+-- ---- words put over others, as many as they were
+
+put-comm : (ws bs y : List ℕ) (at k : ℕ) → at + length bs ≤ k → sets (putWords y k ws) at bs ≡ putWords (sets y at bs) k ws
+put-comm [] bs y at k h = refl
+put-comm (w ∷ ws) bs y at k h =
+    put-comm ws bs (sets y k (bytesOf wordSize w)) at (k + wordSize) (omega arith)
+    ∙ ap (λ (z : List ℕ). putWords z (k + wordSize) ws) (sets-comm bs (bytesOf wordSize w) y k at (inl h))
+
+pub put-over : (ws vs y : List ℕ) (at : ℕ) → length ws ≡ length vs → putWords (putWords y at ws) at vs ≡ putWords y at vs
+put-over [] [] y at e = refl
+put-over [] (v ∷ vs) y at e = absurd (omega arith)
+put-over (w ∷ ws) [] y at e = absurd (omega arith)
+put-over (w ∷ ws) (v ∷ vs) y at e =
+    let same : length (bytesOf wordSize w) ≡ length (bytesOf wordSize v) = length-bytes wordSize w ∙ sym (length-bytes wordSize v) in
+    ap (λ (z : List ℕ). putWords z (at + wordSize) vs)
+    (put-comm ws (bytesOf wordSize v) (sets y at (bytesOf wordSize w)) at (at + wordSize) (omega (arith, length-bytes wordSize v))
+    ∙ ap (λ (z : List ℕ). putWords z (at + wordSize) ws) (sets-over (bytesOf wordSize w) (bytesOf wordSize v) y at same))
+    ∙ put-over ws vs (sets y at (bytesOf wordSize v)) (at + wordSize) (omega arith)

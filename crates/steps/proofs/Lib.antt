@@ -16,3 +16,4 @@ pub mod PastTheTable
 pub mod Order
 pub mod WordsStay
 pub mod HeldHistories
+pub mod HeldWords

@@ -87,3 +87,15 @@ by-status bytes ws s false e q h = absurd (eqb-false s 0 q h)
 pub legal-set-up : (bytes ws : List ℕ) → setUp bytes ws .answer .status ≡ 0 → (legalTable (setUp bytes ws .table) ≡ true) × (recordsOf (setUp bytes ws .table) ≡ newSets bytes)
 unfolding setUp
 legal-set-up bytes ws h = by-status bytes ws _ (eqb (setUpStatus bytes (length ws)) 0) refl refl h
+
+-- ---- what set-up leaves where it succeeds, and why
+
+granted-by :
+    (bytes ws : List ℕ) (s : ℕ) (b : Bool) → eqb s 0 ≡ b → (if b then done bytes ws else notDone ws s) .answer .status ≡ 0
+    → (s ≡ 0) × ((if b then done bytes ws else notDone ws s) .table ≡ newTable bytes ws)
+granted-by bytes ws s true q h = (eqb-true s 0 q, refl)
+granted-by bytes ws s false q h = absurd (eqb-false s 0 q h)
+
+pub granted-table : (bytes ws : List ℕ) → setUp bytes ws .answer .status ≡ 0 → (setUpStatus bytes (length ws) ≡ 0) × (setUp bytes ws .table ≡ newTable bytes ws)
+unfolding setUp
+granted-table bytes ws h = granted-by bytes ws _ (eqb (setUpStatus bytes (length ws)) 0) refl h

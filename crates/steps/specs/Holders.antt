@@ -6,10 +6,12 @@ use mathlib.Core.List.{List, [], _∷_, _++_, map}
 use mathlib.Core.Option.{some}
 use Prim.Native.Nat.{ℕ, _*_}
 use lib.ListN.{length}
+use lib.Seq.{sets}
 use Rattle.octets.specs.Octets.{padded}
 use Rattle.octets.specs.Lists.{nth, keep, beside}
 use Rattle.record.specs.declared.Record.{Record}
 use Rattle.record.specs.Parts.{idOf}
+use Rattle.replies.specs.declared.Reply.{Reply}
 use Rattle.replies.specs.Answers.{Answer, granted}
 use Rattle.table.specs.Table.{recordsOf, legalTable, listedMarks}
 use Rattle.pages.specs.Aggregate.{aggregatePage}
@@ -18,7 +20,7 @@ use Rattle.commands.specs.Commands.{dwordSize, commandIn, offset, dwords}
 use Rattle.commands.specs.Shapes.{kindOf}
 use Rattle.steps.specs.Items.{Item, command}
 use Rattle.steps.specs.Card.{names, trace}
-use Rattle.steps.specs.Words.{cardOf, stepWords}
+use Rattle.steps.specs.Words.{cardOf, stepWords, Answered, Handed}
 use Rattle.steps.specs.Demands.{alone, own, lived, pendingIds, Rising, noneOf}
 
 -- What holds a card and takes items.
@@ -151,3 +153,67 @@ pub record Steps (H : Holder) : Type 0 where
   pub said : (h : H .Held) (l : H .Lent) (b : H .Back) (g : H .Held) → H .Call h l b g → b ≡ H .shows l (stepWords (H .words h) (H .item l) .answer)
   pub told : (l : H .Lent) (a : Answer) → H .status (H .shows l a) ≡ a .status
   pub put-over : (h : H .Held) (ws vs : List ℕ) → length ws ≡ length vs → H .with-words (H .with-words h ws) vs ≡ H .with-words h vs
+
+-- ==== The holders that users have: the lent words here, C's region of bytes in crates/card_c/specs/HeldByC.antt.
+
+-- ---- the lent words, which the functions of crates/card take
+
+-- what a call is lent beside them: the item, and its answer buffer
+pub record LentWords : Type 0 where
+  pub item : Item
+  pub before : List ℕ
+
+pub record BackWords : Type 0 where
+  pub reply : Reply
+  pub buffer : List ℕ
+
+abbrev pub heldWords : Holder
+heldWords =
+    record {
+      Held = List ℕ;
+      Lent = LentWords;
+      Back = BackWords;
+      words = λ ws. ws;
+      with-words = λ ws vs. vs;
+      item = λ l. l .item;
+      shows = λ l a.
+          record {
+            reply = record { status = a .status; dword = a .dword; len = length (a .bytes) };
+            buffer = sets (l .before) 0 (a .bytes);
+          };
+      status = λ b. b .reply .status;
+      Call = λ ws l b vs. Answered ws (l .item) (l .before) (b .reply) vs (b .buffer);
+    }
+
+-- proved as `words-demand` in proofs/HeldWords.antt
+abbrev pub WordsDemand : Type 0
+WordsDemand = Demand3 heldWords
+
+-- ---- the lent words, where a command hands back the written part; nothing is said of the bytes after it
+
+pub record LentPart : Type 0 where
+  pub item : Item
+  pub room : ℕ
+
+pub record BackPart : Type 0 where
+  pub status : ℕ
+  pub dword : ℕ
+  pub part : List ℕ
+
+abbrev pub heldPart : Holder
+heldPart =
+    record {
+      Held = List ℕ;
+      Lent = LentPart;
+      Back = BackPart;
+      words = λ ws. ws;
+      with-words = λ ws vs. vs;
+      item = λ l. l .item;
+      shows = λ l a. record { status = a .status; dword = a .dword; part = a .bytes };
+      status = λ b. b .status;
+      Call = λ ws l b vs. Handed ws (l .item) (l .room) vs (b .status) (b .dword) (b .part);
+    }
+
+-- proved as `part-demand` in proofs/HeldWords.antt
+abbrev pub PartDemand : Type 0
+PartDemand = Demand3 heldPart

@@ -1,0 +1,66 @@
+-- Demand 3 of the functions for C, called one after another on one region of bytes: crates/steps/specs/Holders.antt says what is
+-- demanded of any holder of a card, and here is this one.
+-- A history is any list of calls, each lent the region that the one before has left, of which each function's promise holds
+-- (`AnsweredAtC`, what a card_ function ensures). Beside it nothing is supposed but that bytes are bytes, as their type says.
+-- Proved under its name, in lower case and with dashes, in proofs/HeldByC.antt.
+use mathlib.Core.Path.{_≡_}
+use mathlib.Core.Bool.{true}
+use mathlib.Core.List.{List}
+use Prim.Native.Nat.{ℕ}
+use lib.ListN.{length}
+use lib.Seq.{sets}
+use Rattle.octets.specs.Octets.{AllBytes}
+use Rattle.table.specs.Table.{recordsOf, legalTable}
+use Rattle.region.specs.Region.{tableIn, tableOut}
+use Rattle.steps.specs.Items.{Item, GivenBytes}
+use Rattle.steps.specs.SetUp.{newSets}
+use Rattle.steps.specs.Holders.{Holder, Demand3, NeverLost}
+use Rattle.card_c.specs.Entries.{SetUpAtC, AnsweredAtC, replyPart}
+
+-- what a call is lent beside the region: the item, the answer buffer, and the region for its reply
+pub record LentByC : Type 0 where
+  pub item : Item
+  pub before : List ℕ
+  pub reply : List ℕ
+
+-- the number that it returns, and what the answer buffer and the reply hold then
+pub record BackToC : Type 0 where
+  pub number : ℕ
+  pub buffer : List ℕ
+  pub said : List ℕ
+
+abbrev pub heldByC : Holder
+heldByC =
+    record {
+      Held = List ℕ;
+      Lent = LentByC;
+      Back = BackToC;
+      words = tableIn;
+      with-words = tableOut;
+      item = λ l. l .item;
+      shows = λ l a.
+          record {
+            number = a .status;
+            buffer = sets (l .before) 0 (a .bytes);
+            said = sets (l .reply) 0 (replyPart (a .dword) (length (a .bytes)) (length (l .reply)));
+          };
+      status = λ b. b .number;
+      Call = λ region l b after.
+          AllBytes region × GivenBytes (l .item)
+          × AnsweredAtC region (l .item) (l .before) (l .reply) (b .number) after (b .buffer) (b .said);
+    }
+
+-- "Start from any legal table": set-up that succeeds leaves one, which holds the new sets
+abbrev pub SetUpLegalAtC : Type 0
+SetUpLegalAtC =
+    (bodies region after : List ℕ) (number : ℕ) → AllBytes region → AllBytes bodies → SetUpAtC bodies region after number → number ≡ 0
+    → (legalTable (tableIn after) ≡ true) × (recordsOf (tableIn after) ≡ newSets bodies)
+
+-- The notice of one set is never lost to another: a set that is listed stays so, whatever C functions are called that do not name
+-- it, and a read of page 0Bh then lists it (`AggregateBack` of the next).
+abbrev pub NoticeNeverLost : Type 0
+NoticeNeverLost = NeverLost heldByC
+
+-- All of demand 3: own record, own answers, the aggregate log exact and rising, and swapping with not one byte changed.
+abbrev pub DemandAtC : Type 0
+DemandAtC = Demand3 heldByC
