@@ -13,7 +13,7 @@ use Rattle.pages.proofs.Listed.{aggregate-back}
 use Rattle.steps.specs.Items.{Card, Item, reads}
 use Rattle.steps.specs.Meanings.{meaning}
 use Rattle.steps.specs.Card.{refusalOf, effectOn, concerns, touched, answer, step, run}
-use Rattle.steps.proofs.Edges.{inD}
+use Rattle.steps.specs.Edges.{inD}
 
 -- the reads of the first set
 readsOf : List Record → ℕ

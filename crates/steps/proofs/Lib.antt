@@ -1,6 +1,6 @@
 pub mod ItemShapes
 pub mod Slots
-pub mod Edges
+pub mod EdgesHold
 pub mod StepOnWords
 pub mod KeptLegal
 pub mod OwnHistory

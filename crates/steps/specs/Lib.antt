@@ -6,5 +6,6 @@ pub mod Rows
 pub mod Words
 pub mod SetUp
 pub mod Order
+pub mod Edges
 pub mod Demands
 pub mod Holders

@@ -62,10 +62,11 @@ cases =
     ∷ case (answer card (setPlain 0x13 9) .status) invalidField
     ∷ []
 
-abbrev pub All : List Case → Type 0
-All [] = Unit {0}
-All (c ∷ cs) = (c .answered ≡ c .expected) × All cs
+-- a claim holds of each row of a table
+abbrev pub Each : {A : Type 0} → (A → Type 0) → List A → Type 0
+Each claim [] = Unit {0}
+Each claim (x ∷ xs) = claim x × Each claim xs
 
 -- proved as `order` in proofs/Order.antt
 abbrev pub Order : Type 0
-Order = All cases
+Order = Each (λ (c : Case). c .answered ≡ c .expected) cases

@@ -1,0 +1,155 @@
+-- 01, "Edges to show": "Starred ones are proved about the written rules, gathered in a single table under a single claim".
+-- "Same set", of the whole run: set 7 (`seven` of Order.antt).
+use mathlib.Core.Path.{_≡_}
+use mathlib.Core.Bool.{Bool, true, false}
+use mathlib.Core.List.{List, [], _∷_, _++_, map}
+use Prim.Native.Nat.{ℕ}
+use lib.ListN.{replicate}
+use Rattle.octets.specs.Octets.{bytesOf}
+use Rattle.record.specs.declared.Window.{Window}
+use Rattle.record.specs.declared.Window.the-variants.{D, N}
+use Rattle.record.specs.declared.Thresholds.{Thresholds}
+use Rattle.record.specs.declared.Spent.{Spent}
+use Rattle.record.specs.declared.Config.{Config}
+use Rattle.record.specs.declared.Record.{Record}
+use Rattle.record.specs.Parts.{configOf, spends, nothingSpent, recovers, stateOf}
+use Rattle.record.specs.Event.{eventsOf, noEvents, bitsOf}
+use Rattle.replies.specs.Answers.{Answer}
+use Rattle.steps.specs.Items.{Card, Item, reads, excursion, tick, command}
+use Rattle.steps.specs.Card.{Outcome, step}
+use Rattle.steps.specs.Order.{seven, Each}
+
+-- ---- the cards to start from
+
+-- ENEV 4001h and reads threshold 10
+abbrev pub warned : Config
+warned = configOf (eventsOf true false false true false) 10 0 0
+
+-- ENEV 0 and no threshold
+abbrev pub silent : Config
+silent = configOf noEvents 0 0 0
+
+-- set 7 alone in a window, with nothing spent in D, n ms of N time, and no event
+abbrev pub cardIn : Window → Config → ℕ → Card
+cardIn w c n =
+    record {
+      sets = record { attributes = seven; state = stateOf w c nothingSpent (recovers n); notes = record { events = noEvents; listed = false } } ∷ [];
+    }
+
+abbrev pub inD : Card
+inD = cardIn D warned 0
+
+-- after edge 2's reads, and after edge 10's excursion
+abbrev pub after91 : Card
+after91 = step inD (reads 7 91) .card
+
+abbrev pub afterExcursion : Card
+afterExcursion = step (cardIn D silent 0) (excursion 7) .card
+
+-- ---- the commands
+
+-- 64 bytes with an opcode and dwords 10, 11 and 12
+abbrev commandOf : ℕ → ℕ → ℕ → ℕ → List ℕ
+commandOf opcode ten eleven twelve =
+    bytesOf 4 opcode ++ replicate 36 0 ++ bytesOf 4 ten ++ bytesOf 4 eleven ++ bytesOf 4 twelve ++ replicate 12 0
+
+-- Set Features 14h: window D
+abbrev selectD : Item
+selectD = command (commandOf 0x09 0x14 7 1) [] 0
+
+-- Set Features 13h: enable, with 512 data bytes that are zero but for bit 15 of ENEV
+abbrev enableBit15 : Item
+enableBit15 = command (commandOf 0x09 0x13 7 1) (bytesOf 512 0x8000) 0
+
+-- Get Log Page 0Ah: one dword from an offset, Retain 1
+abbrev readFrom : ℕ → Item
+readFrom offset = command (commandOf 0x02 0x800A 0x70000 offset) [] 4
+
+-- ---- what is looked at
+
+-- of a set: all that changes. ENEV and the events as their 16 bits; of D reads, writes and time
+pub record Shown : Type 0 where
+  pub window : Window
+  pub enev : ℕ
+  pub thresholds : Thresholds
+  pub spent : Spent
+  pub nTime : ℕ
+  pub events : ℕ
+  pub listed : Bool
+
+-- of an outcome: the answer (status, dword 0 and bytes), and the sets of the card after it
+pub record Seen : Type 0 where
+  pub answer : Answer
+  pub sets : List Shown
+
+abbrev pub shown : Record → Shown
+shown r =
+    record {
+      window = r .state .window;
+      enev = bitsOf (r .state .config .enabled);
+      thresholds = r .state .config .thresholds;
+      spent = r .state .spent;
+      nTime = r .state .recovery .time;
+      events = bitsOf (r .notes .events);
+      listed = r .notes .listed;
+    }
+
+abbrev pub seen : Outcome → Seen
+seen o = record { answer = o .answer; sets = map shown (o .card .sets) }
+
+-- ---- the table: each row has the edge's number, what comes of it, and what is expected. 10 has two rows.
+
+-- an answer: status, dword 0 and bytes
+abbrev says : ℕ → ℕ → List ℕ → Answer
+says status dword bytes = record { status = status; dword = dword; bytes = bytes }
+
+-- a set: window; ENEV; thresholds of reads, writes and time; reads, writes and time in D; N time; events; listed
+abbrev left : Window → ℕ → Thresholds → Spent → ℕ → ℕ → Bool → Shown
+left w enev thresholds spent nTime events listed =
+    record { window = w; enev = enev; thresholds = thresholds; spent = spent; nTime = nTime; events = events; listed = listed }
+
+abbrev limits : ℕ → ℕ → ℕ → Thresholds
+limits i o t = record { reads = i; writes = o; time = t }
+
+-- what is seen, and what is expected
+pub record Edge : Type 0 where
+  pub number : ℕ
+  pub seen : Seen
+  pub expected : Seen
+
+abbrev edge : ℕ → Outcome → Answer → Shown → Edge
+edge number outcome answer set = record { number = number; seen = seen outcome; expected = record { answer = answer; sets = set ∷ [] } }
+
+unfoldable pub twelve : List Edge
+twelve =
+    -- "90 reads: no warning."
+    edge 1 (step inD (reads 7 90)) (says 0 0 []) (left D 0x4001 (limits 10 0 0) (spends 90 0 0) 0 0x0000 false)
+    -- "91: warning."
+    ∷ edge 2 (step inD (reads 7 91)) (says 0 0 []) (left D 0x4001 (limits 10 0 0) (spends 91 0 0) 0 0x0001 true)
+    -- "100: still D."
+    ∷ edge 3 (step inD (reads 7 100)) (says 0 0 []) (left D 0x4001 (limits 10 0 0) (spends 100 0 0) 0 0x0001 true)
+    -- "101 at once: events 4001h, N."
+    ∷ edge 4 (step inD (reads 7 101)) (says 0 0 []) (left N 0x4001 (limits 10 0 0) (spends 0 0 0) 0 0x4001 true)
+    -- "tick 999 in D: D."
+    ∷ edge 5 (step inD (tick 999 0)) (says 0 0 []) (left D 0x4001 (limits 10 0 0) (spends 0 0 999) 0 0x0000 false)
+    -- "tick 1000: N, time 0."
+    ∷ edge 6 (step inD (tick 1000 0)) (says 0 0 []) (left N 0x4001 (limits 10 0 0) (spends 0 0 0) 0 0x4000 true)
+    -- "tick 1007: N, time 7."
+    ∷ edge 7 (step inD (tick 1007 0)) (says 0 0 []) (left N 0x4001 (limits 10 0 0) (spends 0 0 0) 7 0x4000 true)
+    -- "enabled, N time 19, select D: 07C1h."
+    ∷ edge 8 (step (cardIn N warned 19) selectD) (says 0x07C1 0 []) (left N 0x4001 (limits 10 0 0) (spends 0 0 0) 19 0x0000 false)
+    -- "N time 20: D."
+    ∷ edge 9 (step (cardIn N warned 20) selectD) (says 0 0 []) (left D 0x4001 (limits 10 0 0) (spends 0 0 0) 0 0x0000 false)
+    -- "excursion with ENEV 0: event 8000h, not listed;"
+    ∷ edge 10 (step (cardIn D silent 0) (excursion 7)) (says 0 0 []) (left N 0x0000 (limits 0 0 0) (spends 0 0 0) 0 0x8000 false)
+    -- "then enabling bit 15 doesn't list it."
+    ∷ edge 10 (step afterExcursion enableBit15) (says 0 0 []) (left N 0x8000 (limits 0 0 0) (spends 0 0 0) 0 0x8000 false)
+    -- "offset 512 of 0Ah, Retain 1: zeros."
+    ∷ edge 11 (step after91 (readFrom 512)) (says 0 0 (replicate 4 0)) (left D 0x4001 (limits 10 0 0) (spends 91 0 0) 0 0x0001 true)
+    -- "offset 516: 0002h."
+    ∷ edge 12 (step after91 (readFrom 516)) (says 0x0002 0 []) (left D 0x4001 (limits 10 0 0) (spends 91 0 0) 0 0x0001 true)
+    ∷ []
+
+-- proved as `edges` in proofs/EdgesHold.antt
+abbrev pub Edges : Type 0
+Edges = Each (λ (e : Edge). e .seen ≡ e .expected) twelve
