@@ -10,7 +10,7 @@ pub mod OnWords
 pub mod NewSets
 pub mod FirmPromises
 pub mod ExactRefusals
-pub mod IdleBuilds
+pub mod IdleRefuted
 pub mod NamedItems
 pub mod PastTheTable
 pub mod Order

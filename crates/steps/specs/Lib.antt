@@ -7,5 +7,6 @@ pub mod Words
 pub mod SetUp
 pub mod Order
 pub mod Edges
+pub mod IdleBuilds
 pub mod Demands
 pub mod Holders
