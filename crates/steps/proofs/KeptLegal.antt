@@ -94,7 +94,7 @@ module _ (ws : List ℕ) (i : Item) (e : legalTable ws ≡ true) where
   after-legal : legalSets 0 (after (cardOf ws) i .sets) ≡ true
   after-legal = sets-kept (length (recordsOf ws)) 0 i (recordsOf ws) (sets-known ws (legal-known ws e))
 
-  fits-again : Fitting ws (after (cardOf ws) i)
+  pub fits-again : Fitting ws (after (cardOf ws) i)
   fits-again = fitting ws (legal-known ws e) (after (cardOf ws) i) (as-many ∙ length-records ws) after-legal
 
   pub step-keeps : legalTable (stepWords ws i .table) ≡ true

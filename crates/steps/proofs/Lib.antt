@@ -12,7 +12,7 @@ pub mod FirmPromises
 pub mod ExactRefusals
 pub mod IdleRefuted
 pub mod NamedItems
-pub mod PastTheTable
+pub mod PastWords
 pub mod Order
 pub mod WordsStay
 pub mod HeldHistories

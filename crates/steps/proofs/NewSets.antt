@@ -62,7 +62,7 @@ pub new-header : (bytes : List ℕ) → layoutNumber ∷ bodies bytes ∷ [] ≡
 new-header bytes = ap (λ (n : ℕ). layoutNumber ∷ n ∷ []) (sym (new-length bytes))
 
 module _ (bytes ws : List ℕ) (w : Well bytes (length ws)) where
-  new-fits : Fitting ws (newCard bytes)
+  pub new-fits : Fitting ws (newCard bytes)
   new-fits = record { range = rw (new-length bytes) (w .range); legal = w .legal; room = rw (new-length bytes) (w .room) }
 
   pub new-legal-table : legalTable (newTable bytes ws) ≡ true

@@ -7,6 +7,7 @@ pub mod Words
 pub mod SetUp
 pub mod Order
 pub mod Edges
+pub mod PastTheTable
 pub mod IdleBuilds
 pub mod Demands
 pub mod Holders
