@@ -13,7 +13,7 @@ use Rattle.rules.specs.Rules.{mediaRule}
 use Rattle.steps.specs.Items.{itemOf}
 use Rattle.steps.specs.Card.{effectOn, ruled}
 use Rattle.steps.proofs.NamedItems.{meaning-media}
-use Rattle.by_reference.specs.Records.{ChargedInPlace, StaysLegal}
+use Rattle.by_reference.specs.Records.{StaysLegal, OneCharge}
 
 -- the step's rule for an event is the media layer's
 pub media-ruled : (m : Media) (r : Record) → settled r (mediaRule m (r .attributes) (r .state)) ≡ ruled (itemOf (idOf r) m) r
@@ -28,5 +28,5 @@ media-keeps Excursion = excursion-keeps
 pub stays-legal : StaysLegal
 stays-legal m r h = rw h (subst (λ (x : Record). legalRecord x ≡ true) (media-ruled m r) (keeps-record (mediaRule m) (media-keeps m) r h))
 
-pub one-charge : (m : Media) (r v w : Record) (s t : ℕ) → ChargedInPlace m r v s → ChargedInPlace m r w t → (v ≡ w) × (s ≡ t)
+pub one-charge : OneCharge
 one-charge m r v w s t h k = (h .left ∙ sym (k .left), h .status ∙ sym (k .status))

@@ -32,3 +32,7 @@ pub record ChargedInPlace (m : Media) (before after : Record) (number : ℕ) : T
 -- "Legal table", for one record: proved as `stays-legal` in proofs/OfRecord.antt
 abbrev pub StaysLegal : Type 0
 StaysLegal = (m : Media) (r : Record) → legalRecord r ≡ true → legalRecord (charged m r .«record») ≡ true
+
+-- "Any two outcomes allowed by one statement are shown to coincide": proved as `one-charge` there
+abbrev pub OneCharge : Type 0
+OneCharge = (m : Media) (r v w : Record) (s t : ℕ) → ChargedInPlace m r v s → ChargedInPlace m r w t → (v ≡ w) × (s ≡ t)

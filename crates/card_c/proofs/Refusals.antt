@@ -14,8 +14,7 @@ use Rattle.steps.proofs.OnWords.{refused-words}
 use Rattle.steps.proofs.ExactRefusals.{answers-words, set-up-refused, set-up-answers}
 use Rattle.region.specs.Region.{tableIn, tableOut}
 use Rattle.region.proofs.Words.{own-region}
-use Rattle.card_c.specs.Entries.{SetUpAtC, AnsweredAtC}
-use Rattle.card_c.specs.Demands.{RefusedSetUp, RefusedItem}
+use Rattle.card_c.specs.Demands.{RefusedSetUp, RefusedItem, OneSetUp, OneItem}
 
 -- success is a number of an item that was carried out
 not-success : (number : ℕ) → carriedOut number ≡ false → number ≡ 0 → ⊥
@@ -38,11 +37,9 @@ refused-item region i before reply₀ number after buffer said each e n =
 
 -- ---- firmness
 
-pub one-set-up : (bodies region v w : List ℕ) (s t : ℕ) → SetUpAtC bodies region v s → SetUpAtC bodies region w t → (v ≡ w) × (s ≡ t)
+pub one-set-up : OneSetUp
 one-set-up bodies region v w s t h k = (h .table ∙ sym (k .table), h .status ∙ sym (k .status))
 
-pub one-item :
-    (region : List ℕ) (i : Item) (before reply₀ : List ℕ) (s t : ℕ) (v w x y p q : List ℕ)
-    → AnsweredAtC region i before reply₀ s v x p → AnsweredAtC region i before reply₀ t w y q → (s ≡ t) × (v ≡ w) × (x ≡ y) × (p ≡ q)
+pub one-item : OneItem
 one-item region i before reply₀ s t v w x y p q h k =
     (h .status ∙ sym (k .status), h .table ∙ sym (k .table), h .answer ∙ sym (k .answer), h .reply ∙ sym (k .reply))

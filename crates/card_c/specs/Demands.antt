@@ -21,3 +21,15 @@ RefusedItem =
     (region : List ℕ) (i : Item) (before reply₀ : List ℕ) (number : ℕ) (after buffer said : List ℕ)
     → AllBytes region → AnsweredAtC region i before reply₀ number after buffer said → carriedOut number ≡ false
     → (after ≡ region) × (buffer ≡ before) × (said ≡ sets reply₀ 0 (replyPart 0 0 (length reply₀)))
+
+-- ---- 01: "Any two outcomes allowed by one statement are shown to coincide"
+
+-- set-up: the bytes and the number
+abbrev pub OneSetUp : Type 0
+OneSetUp = (bodies region v w : List ℕ) (s t : ℕ) → SetUpAtC bodies region v s → SetUpAtC bodies region w t → (v ≡ w) × (s ≡ t)
+
+-- every item: the number, and every byte of the table, of the answer buffer and of the reply
+abbrev pub OneItem : Type 0
+OneItem =
+    (region : List ℕ) (i : Item) (before reply₀ : List ℕ) (s t : ℕ) (v w x y p q : List ℕ)
+    → AnsweredAtC region i before reply₀ s v x p → AnsweredAtC region i before reply₀ t w y q → (s ≡ t) × (v ≡ w) × (x ≡ y) × (p ≡ q)

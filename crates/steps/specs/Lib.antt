@@ -8,6 +8,7 @@ pub mod SetUp
 pub mod Order
 pub mod Edges
 pub mod PastTheTable
+pub mod Firm
 pub mod IdleBuilds
 pub mod Demands
 pub mod Holders
