@@ -26,7 +26,7 @@ use Rattle.steps.specs.SetUp.{newRecord, attributesFrom, bodies, newSets, newCa
 use Rattle.steps.specs.Holders.{Steps}
 use Rattle.steps.proofs.StepOnWords.{step-legal}
 use Rattle.steps.proofs.WordsStay.{words-stay}
-use Rattle.steps.proofs.HeldHistories.{never-lost, demand-3}
+use Rattle.steps.proofs.HeldHistories.{never-lost, demanded}
 use Rattle.steps.proofs.NewSets.{well, new-length, legal-set-up, granted-table}
 use Rattle.card_c.specs.HeldByC.{heldByC, SetUpLegalAtC, NoticeNeverLost, DemandAtC}
 
@@ -50,7 +50,7 @@ c-steps =
     }
 
 pub demand-at-c : DemandAtC
-demand-at-c = demand-3 heldByC c-steps
+demand-at-c = demanded heldByC c-steps
 
 pub notice-never-lost : NoticeNeverLost
 notice-never-lost = never-lost heldByC c-steps

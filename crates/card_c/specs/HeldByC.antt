@@ -14,7 +14,7 @@ use Rattle.table.specs.Table.{recordsOf, legalTable}
 use Rattle.region.specs.Region.{tableIn, tableOut}
 use Rattle.steps.specs.Items.{Item, GivenBytes}
 use Rattle.steps.specs.SetUp.{newSets}
-use Rattle.steps.specs.Holders.{Holder, Demand3, NeverLost}
+use Rattle.steps.specs.Holders.{Holder, Demanded, NeverLost}
 use Rattle.card_c.specs.Entries.{SetUpAtC, AnsweredAtC, replyPart}
 
 -- what a call is lent beside the region: the item, the answer buffer, and the region for its reply
@@ -63,4 +63,4 @@ NoticeNeverLost = NeverLost heldByC
 
 -- All of demand 3: own record, own answers, the aggregate log exact and rising, and swapping with not one byte changed.
 abbrev pub DemandAtC : Type 0
-DemandAtC = Demand3 heldByC
+DemandAtC = Demanded heldByC

@@ -1,13 +1,15 @@
 -- Demand 3 of any holder whose calls go by the step: a history of calls is a run of the step on its words.
-use mathlib.Core.Path.{_≡_, refl, sym, ap, _∙_}
-use mathlib.Core.Bool.{Bool, true, false}
+use mathlib.Core.Path.{_≡_, refl, sym, ap, subst, _∙_}
+use mathlib.Core.Bool.{Bool, true, false, not, _&&_}
 use mathlib.Core.List.{List, [], _∷_, _++_, map, map-map, map-append}
 use mathlib.Core.Option.{Option, some}
 use mathlib.Core.Logic.{⊎-elim}
 use Prim.Native.Nat.{ℕ, suc, _≤_}
 use native.Mathlib.Omega.{arith}
+use lib.Dec.{eqb}
 use lib.ListN.{length, length-map, length-append}
 use Rattle.octets.specs.Lists.{nth, keep, beside}
+use Rattle.octets.proofs.JoinedTests.{both, together}
 use Rattle.record.specs.declared.Record.{Record}
 use Rattle.record.specs.Parts.{idOf}
 use Rattle.replies.specs.Answers.{Answer}
@@ -16,15 +18,17 @@ use Rattle.table.specs.Table.{recordsOf, legalTable, listedMarks, written}
 use Rattle.table.proofs.LegalTables.{legal-known, sets-known}
 use Rattle.table.proofs.Written.{length-written}
 use Rattle.steps.specs.Items.{Item, command}
-use Rattle.steps.specs.Card.{names, answer, run, trace}
+use Rattle.steps.specs.Card.{names, refusalOf, answer, step, run, trace}
 use Rattle.steps.specs.Words.{cardOf, stepWords}
-use Rattle.steps.specs.Demands.{own, pendingIds, runWords, traceWords}
-use Rattle.steps.specs.Holders.{Holder, Called, History, last, items, lents, backs, shown, naming, Exchanged, StaysLegal, OwnRecords, OwnAnswersBack, AggregateBack, NeverLost, SwapsBack, Demand3, Steps}
+use Rattle.steps.specs.Demands.{own, pendingIds, configures, noneConfigures, windowOf, noneMoves, runWords, traceWords}
+use Rattle.steps.specs.Holders.{Holder, Called, History, last, items, lents, backs, shown, naming, Exchanged, StaysLegal, OwnRecords, OwnAnswersBack, AggregateBack, NeverLost, SwapsBack, noneDone, noneMoved, ConfigBack, WindowBack, Demanded, Steps}
 use Rattle.steps.proofs.ItemShapes.{bool-cases}
-use Rattle.steps.proofs.KeptLegal.{step-keeps}
+use Rattle.steps.proofs.KeptLegal.{step-keeps, step-back}
 use Rattle.steps.proofs.ExactRefusals.{answers}
 use Rattle.steps.proofs.OwnHistory.{by-rules, own-answers, in-order, stays-listed}
+use Rattle.commands.specs.Commands.{commandIn, featureSet}
 use Rattle.steps.proofs.AggregateLog.{aggregate-log}
+use Rattle.steps.proofs.StoredFeatures.{config-stored, window-stored}
 use Rattle.steps.proofs.OnWords.{words-run, words-trace, words-swap, answer-words}
 
 module _ (H : Holder) (S : Steps H) where
@@ -175,8 +179,88 @@ module _ (H : Holder) (S : Steps H) where
         },
       )
 
-  pub demand-3 : Demand3 H
-  demand-3 =
+  -- ---- what features store
+
+  -- the card after some calls is the run's, and the answer to one more
+  card-after : (h : H .Held) (cs : List (Called H)) → legalTable (H .words h) ≡ true → History H h cs → cardOf (H .words (last H h cs)) ≡ run (cardOf (H .words h)) (items H cs)
+  card-after h cs e u = ap cardOf (ran h cs e u) ∙ words-run (H .words h) (items H cs) e .card
+
+  back-after :
+      (h : H .Held) (cs : List (Called H)) (d : Called H) → legalTable (H .words h) ≡ true → History H h cs → H .Call (last H h cs) (d .lent) (d .back) (d .held)
+      → d .back ≡ H .shows (d .lent) (answer (run (cardOf (H .words h)) (items H cs)) (H .item (d .lent)))
+  back-after h cs d e u p =
+      S .said (last H h cs) (d .lent) (d .back) (d .held) p
+      ∙ ap (H .shows (d .lent))
+      (answer-words (H .words (last H h cs)) (H .item (d .lent)) (stays-legal h cs e u) ∙ ap (λ (c : Card). answer c (H .item (d .lent))) (card-after h cs e u))
+
+  -- so its status is the answer's
+  told-status : (d : Called H) (a : Answer) → d .back ≡ H .shows (d .lent) a → a .status ≡ H .status (d .back)
+  told-status d a b = sym (S .told (d .lent) a) ∙ sym (ap (H .status) b)
+
+  none-configures :
+      (id : ℕ) (h : H .Held) (cs : List (Called H)) → legalTable (H .words h) ≡ true → History H h cs → noneDone H (configures id) cs ≡ true
+      → noneConfigures (cardOf (H .words h)) id (items H cs) ≡ true
+  none-configures id h [] e u n = refl
+  none-configures id h (c ∷ cs) e u n =
+      let i = H .item (c .lent) in
+      let C = cardOf (H .words h) in
+      let p = both (not (configures id i && eqb (H .status (c .back)) 0)) _ n in
+      let s : refusalOf C i ≡ H .status (c .back) = sym (answers C i) ∙ told-status c (answer C i) (back-after h [] c e tt (u .0)) in
+      let k : cardOf (H .words (c .held)) ≡ step C i .card = ap cardOf (next h c cs e u) ∙ step-back (H .words h) i e in
+      together (not (configures id i && eqb (refusalOf C i) 0)) (noneConfigures (step C i .card) id (items H cs))
+      (subst (λ (x : ℕ). not (configures id i && eqb x 0) ≡ true) (sym s) (p .0))
+      (subst (λ (x : Card). noneConfigures x id (items H cs) ≡ true) k (none-configures id (c .held) cs (legal-next h c cs e u) (u .1) (p .1)))
+
+  none-moves :
+      (id : ℕ) (h : H .Held) (cs : List (Called H)) → legalTable (H .words h) ≡ true → History H h cs → noneMoved H id h cs ≡ true
+      → noneMoves (cardOf (H .words h)) id (items H cs) ≡ true
+  none-moves id h [] e u n = refl
+  none-moves id h (c ∷ cs) e u n =
+      let i = H .item (c .lent) in
+      let C = cardOf (H .words h) in
+      let p = both (eqb (windowOf (cardOf (H .words (c .held))) id) (windowOf C id)) _ n in
+      let k : cardOf (H .words (c .held)) ≡ step C i .card = ap cardOf (next h c cs e u) ∙ step-back (H .words h) i e in
+      together (eqb (windowOf (step C i .card) id) (windowOf C id)) (noneMoves (step C i .card) id (items H cs))
+      (subst (λ (x : Card). eqb (windowOf x id) (windowOf C id) ≡ true) k (p .0))
+      (subst (λ (x : Card). noneMoves x id (items H cs) ≡ true) k (none-moves id (c .held) cs (legal-next h c cs e u) (u .1) (p .1)))
+
+  -- what a first call leaves and answers, and what the last one answers, where the items are commands
+  module _ (h : H .Held) (c : Called H) (cs : List (Called H)) (d : Called H) (i j : Item) (e : legalTable (H .words h) ≡ true) (u : History H h (c ∷ cs)) (p : H .Call (last H h (c ∷ cs)) (d .lent) (d .back) (d .held)) (mi : H .item (c .lent) ≡ i) (mj : H .item (d .lent) ≡ j) (zi : H .status (c .back) ≡ 0) (zj : H .status (d .back) ≡ 0) where
+    done-first : answer (cardOf (H .words h)) i .status ≡ 0
+    done-first = ap (λ (x : Item). answer (cardOf (H .words h)) x .status) (sym mi) ∙ told-status c _ (back-after h [] c e tt (u .0)) ∙ zi
+
+    after-first : cardOf (H .words (c .held)) ≡ step (cardOf (H .words h)) i .card
+    after-first = ap cardOf (next h c cs e u) ∙ step-back (H .words h) (H .item (c .lent)) e ∙ ap (λ (x : Item). step (cardOf (H .words h)) x .card) mi
+
+    back-last : d .back ≡ H .shows (d .lent) (answer (run (cardOf (H .words h)) (i ∷ items H cs)) j)
+    back-last =
+        back-after h (c ∷ cs) d e u p
+        ∙ ap (λ (x : Item). H .shows (d .lent) (answer (run (cardOf (H .words h)) (x ∷ items H cs)) (H .item (d .lent)))) mi
+        ∙ ap (λ (x : Item). H .shows (d .lent) (answer (run (cardOf (H .words h)) (i ∷ items H cs)) x)) mj
+
+    done-last : answer (run (cardOf (H .words h)) (i ∷ items H cs)) j .status ≡ 0
+    done-last = told-status d _ back-last ∙ zj
+
+  pub config-handed : ConfigBack H
+  config-handed h c cs d bytes given room bytes′ given′ room′ e u p mi ki zi n mj kj q zj =
+      let i = command bytes given room in
+      let j = command bytes′ given′ room′ in
+      let none = subst (λ (x : Card). noneConfigures x (featureSet (commandIn bytes)) (items H cs) ≡ true) (after-first h c cs d i j e u p mi mj zi zj) (none-configures (featureSet (commandIn bytes)) (c .held) cs (legal-next h c cs e u) (u .1) n) in
+      back-last h c cs d i j e u p mi mj zi zj
+      ∙ ap (H .shows (d .lent))
+      (config-stored (cardOf (H .words h)) bytes given room (items H cs) bytes′ given′ room′ ki (done-first h c cs d i j e u p mi mj zi zj) none kj q (done-last h c cs d i j e u p mi mj zi zj))
+
+  pub window-handed : WindowBack H
+  window-handed h c cs d bytes given room bytes′ given′ room′ e u p mi ki zi n mj kj q zj =
+      let i = command bytes given room in
+      let j = command bytes′ given′ room′ in
+      let none = subst (λ (x : Card). noneMoves x (featureSet (commandIn bytes)) (items H cs) ≡ true) (after-first h c cs d i j e u p mi mj zi zj) (none-moves (featureSet (commandIn bytes)) (c .held) cs (legal-next h c cs e u) (u .1) n) in
+      back-last h c cs d i j e u p mi mj zi zj
+      ∙ ap (H .shows (d .lent))
+      (window-stored (cardOf (H .words h)) bytes given room (items H cs) bytes′ given′ room′ ki (done-first h c cs d i j e u p mi mj zi zj) none kj q (done-last h c cs d i j e u p mi mj zi zj))
+
+  pub demanded : Demanded H
+  demanded =
       record {
         stays-legal = stays-legal;
         own-records = own-records;
@@ -184,4 +268,6 @@ module _ (H : Holder) (S : Steps H) where
         aggregate-back = aggregate-back;
         never-lost = never-lost;
         swaps-back = swaps-back;
+        config-handed = config-handed;
+        window-handed = window-handed;
       }

@@ -1,7 +1,7 @@
 -- The lent words are a holder whose calls go by the step, with a reply and where the written part is handed back.
 use mathlib.Core.Path.{refl}
 use Rattle.steps.specs.Holders.{heldWords, WordsDemand, heldPart, PartDemand, Steps}
-use Rattle.steps.proofs.HeldHistories.{demand-3}
+use Rattle.steps.proofs.HeldHistories.{demanded}
 
 words-steps : Steps heldWords
 words-steps =
@@ -18,7 +18,7 @@ words-steps =
     }
 
 pub words-demand : WordsDemand
-words-demand = demand-3 heldWords words-steps
+words-demand = demanded heldWords words-steps
 
 part-steps : Steps heldPart
 part-steps =
@@ -31,4 +31,4 @@ part-steps =
     }
 
 pub part-demand : PartDemand
-part-demand = demand-3 heldPart part-steps
+part-demand = demanded heldPart part-steps

@@ -1,6 +1,6 @@
 -- Demand 2: "What Set Features stores, Get Features hands back."
-use mathlib.Core.Path.{_≡_, refl, sym, ap, _∙_}
-use mathlib.Core.Bool.{Bool, true, false, not, _&&_, _||_, or-false}
+use mathlib.Core.Path.{_≡_, refl, sym, ap, subst, _∙_}
+use mathlib.Core.Bool.{Bool, true, false, not, _&&_, _||_, or-false, false≢true}
 use mathlib.Core.List.{List, [], _∷_, _++_}
 use mathlib.Core.Option.{Option, none, some}
 use mathlib.Core.Logic.{⊎-elim}
@@ -10,7 +10,7 @@ use borrow.Author.Tests.{eqb-true, eq-eqb}
 use lib.Dec.{eqb}
 use lib.ListN.{length}
 use Rattle.octets.specs.Choice.{if_then_else_}
-use Rattle.octets.proofs.JoinedTests.{both, left-false, right-false}
+use Rattle.octets.proofs.JoinedTests.{both, left-false, right-false, second-false}
 use Rattle.record.specs.declared.Attributes.{Attributes}
 use Rattle.record.specs.declared.Window.{Window}
 use Rattle.record.specs.declared.Window.the-variants.{Off, D, N}
@@ -43,8 +43,8 @@ use Rattle.commands.specs.Shapes.{kindOf}
 use Rattle.commands.specs.StatusTable.{isOff, noWindow, lateLines}
 use Rattle.steps.specs.Commanded.{modeNo, named, meaningBy, commandMeaning}
 use Rattle.steps.specs.Meanings.{meaning}
-use Rattle.steps.specs.Card.{refusalAt, refusalOne, refusalOf, has, effectBy, effectOn, names, namesBy, concernsBy, concerns, touched, after, answer, run}
-use Rattle.steps.specs.Demands.{noneOf, stores13, configures, ConfigStored, reachesSet, toAllBy, toAll, WindowStored}
+use Rattle.steps.specs.Card.{refusalAt, refusalOne, refusalBy, refusalOf, has, effectBy, effectOn, names, namesBy, concernsBy, concerns, touched, after, answer, run}
+use Rattle.steps.specs.Demands.{stores13, configures, noneConfigures, ConfigStored, shownWindow, windowOf, noneMoves, WindowStored}
 use Rattle.steps.proofs.ExactRefusals.{answers}
 use Rattle.octets.proofs.Lists.{first-map, first-passes, first-fixed}
 use Rattle.steps.proofs.ItemShapes.{bool-cases, touched-own, touched-not, keeps}
@@ -168,6 +168,32 @@ touched-mild n i r h =
     (λ e. rw (touched-not n i r e) (same (r .state)))
     (bool-cases (concerns n (idOf r) i))
 
+-- an item that is refused leaves every set of the card as it is
+still-by : (m : Meaning) (c : Card) (r : Record) → first (has (idOf r)) (c .sets) ≡ some r → eqb (refusalBy m c) 0 ≡ false
+    → concernsBy m (length (c .sets)) (idOf r) ≡ true → Kept (r .state) (effectBy m (r .attributes) (r .state) .state)
+still-by (Nobody v) c r f z e = same (r .state)
+still-by (Everybody a) c r f z e = absurd (false≢true (sym z ∙ e))
+still-by (The named o) c r f z e =
+    let q : refusalOne o (first (has named) (c .sets)) ≡ refusalAt o (r .attributes) (r .state) = rw (eqb-true named (idOf r) e, f) in
+    rw (rw q at z) (same (r .state))
+
+refused-mild : (c : Card) (i : Item) (r : Record) → first (has (idOf r)) (c .sets) ≡ some r → eqb (refusalOf c i) 0 ≡ false → Kept (r .state) (touched (length (c .sets)) i r .state)
+unfolding refusalOf effectOn concerns
+refused-mild c i r f z =
+    let n = length (c .sets) in
+    ⊎-elim
+    (λ e. rw (touched-own n i r e) (still-by (meaning i) c r f z e))
+    (λ e. rw (touched-not n i r e) (same (r .state)))
+    (bool-cases (concerns n (idOf r) i))
+
+-- what is no Set Features 13h of the set, or is refused
+unstored : (c : Card) (i : Item) (r : Record) → first (has (idOf r)) (c .sets) ≡ some r → configures (idOf r) i && eqb (refusalOf c i) 0 ≡ false → Kept (r .state) (touched (length (c .sets)) i r .state)
+unstored c i r f h =
+    ⊎-elim
+    (λ e. refused-mild c i r f (second-false (configures (idOf r) i) _ e h))
+    (λ e. touched-mild (length (c .sets)) i r e)
+    (bool-cases (configures (idOf r) i))
+
 not-true : (b : Bool) → not b ≡ true → b ≡ false
 not-true true e = cc
 not-true false e = refl
@@ -179,13 +205,14 @@ record Later (c : Card) (id : ℕ) (s : State) : Type 0 where
   kept : Kept s (found .state)
 
 later : (is : List Item) (c : Card) (id : ℕ) (r : Record) → first (has id) (c .sets) ≡ some r → idOf r ≡ id
-    → noneOf (configures id) is ≡ true → Later (run c is) id (r .state)
+    → noneConfigures c id is ≡ true → Later (run c is) id (r .state)
 later [] c id r f e h = record { found = r; there = f; kept = same (r .state) }
 later (i ∷ is) c id r f e h =
     let n = length (c .sets) in
-    let b = both (not (configures id i)) _ h in
+    let b = both (not (configures id i && eqb (refusalOf c i) 0)) _ h in
     let f′ : first (has id) (after c i .sets) ≡ some (touched n i r) = first-map (touched n i) (has id) (has-same n id i) (c .sets) ∙ rw f in
-    let k = touched-mild n i r (rw e (not-true (configures id i) (b .0))) in
+    let k = unstored c i r (subst (λ (x : ℕ). first (has x) (c .sets) ≡ some r) (sym e) f)
+    (subst (λ (x : ℕ). configures x i && eqb (refusalOf c i) 0 ≡ false) (sym e) (not-true (configures id i && eqb (refusalOf c i) 0) (b .0))) in
     let l = later is (after c i) id (touched n i r) f′ (keeps n i r ∙ e) (b .1) in
     record { found = l .found; there = l .there; kept = then-kept (r .state) (touched n i r .state) (l .found .state) k (l .kept) }
 
@@ -256,25 +283,13 @@ config-stored c bytes given room is bytes′ given′ room′ k a h k′ q a′ 
     let config : l .found .state .config ≡ configIn given = l .kept .config ∙ ap (λ (y : State). y .config) s in
     d ∙ rw (mode, config)
 
--- ---- 14h: the window, which no item changes that does not reach the set
+-- ---- 14h: the window, as long as nothing moves it
 
-not-reached-by : (m : Meaning) (n id : ℕ) → namesBy m id || toAllBy m ≡ false → concernsBy m n id ≡ false
-not-reached-by (Nobody v) n id e = refl
-not-reached-by (Everybody a) n id e = cc
-not-reached-by (The named o) n id e = sym (or-false (eqb named id)) ∙ e
-
-not-reached : (i : Item) (n id : ℕ) → reachesSet id i ≡ false → concerns n id i ≡ false
-unfolding names toAll concerns
-not-reached i n id e = not-reached-by (meaning i) n id e
-
-untouched : (is : List Item) (c : Card) (id : ℕ) → noneOf (reachesSet id) is ≡ true → first (has id) (run c is .sets) ≡ first (has id) (c .sets)
-untouched [] c id h = refl
-untouched (i ∷ is) c id h =
-    let n = length (c .sets) in
-    let b = both (not (reachesSet id i)) _ h in
-    let z = not-reached i n id (not-true (reachesSet id i) (b .0)) in
-    untouched is (after c i) id (b .1)
-    ∙ first-fixed (touched n i) (has id) (has-same n id i) (λ r e. touched-not n i r (rw (eqb-true (idOf r) id e) z)) (c .sets)
+unmoved : (is : List Item) (c : Card) (id : ℕ) → noneMoves c id is ≡ true → windowOf (run c is) id ≡ windowOf c id
+unmoved [] c id h = refl
+unmoved (i ∷ is) c id h =
+    let b = both (eqb (windowOf (after c i) id) (windowOf c id)) _ h in
+    unmoved is (after c i) id (b .1) ∙ eqb-true _ _ (b .0)
 
 -- "14h while off; window not 1 or 2 (Set)": a select that passes asks for a window of a set that is on
 one-or-two : (v : ℕ) (a b : Bool) → eqb v 1 ≡ a → eqb v 2 ≡ b → not (a || b) ≡ false → (if a then 1 else 2) ≡ v
@@ -316,8 +331,13 @@ window-stored c bytes given room is bytes′ given′ room′ k a h k′ q a′ 
     let r = x .found in
     let t = touched (length (c .sets)) i r in
     let s = left-is i id o m c r (x .there) (x .passes) in
-    let f : first (has id) (run c (i ∷ is) .sets) ≡ some t = untouched is (after c i) id h ∙ left-there i id o m c r (x .there) in
-    let d = done-is (command bytes′ given′ room′) (featureSet (commandIn bytes′)) (named GetWindow (commandIn bytes′) given′ room′)
-    (command-is bytes′ given′ room′ GetWindow k′) (run c (i ∷ is)) t (rw q f) z′ in
-    let window : windowNo (t .state .window) ≡ windowValue C = ap (λ (y : State). windowNo (y .window)) s ∙ asked-window C given room (r .attributes) (r .state) (x .passes) in
+    let C′ = commandIn bytes′ in
+    let o′ = named GetWindow C′ given′ room′ in
+    let m′ = command-is bytes′ given′ room′ GetWindow k′ in
+    let y = found-by GetWindow C′ given′ room′ (first (has (featureSet C′)) (run c (i ∷ is) .sets)) (sym (status-is (command bytes′ given′ room′) (featureSet C′) o′ m′ (run c (i ∷ is))) ∙ z′) in
+    let d = done-is (command bytes′ given′ room′) (featureSet C′) o′ m′ (run c (i ∷ is)) (y .found) (y .there) z′ in
+    let there : first (has id) (run c (i ∷ is) .sets) ≡ some (y .found) = subst (λ (x : ℕ). first (has x) (run c (i ∷ is) .sets) ≡ some (y .found)) q (y .there) in
+    let asked : windowNo (t .state .window) ≡ windowValue C = ap (λ (v : State). windowNo (v .window)) s ∙ asked-window C given room (r .attributes) (r .state) (x .passes) in
+    let window : windowNo (y .found .state .window) ≡ windowValue C
+    = sym (ap shownWindow there) ∙ unmoved is (after c i) id h ∙ ap shownWindow (left-there i id o m c r (x .there)) ∙ asked in
     d ∙ rw window

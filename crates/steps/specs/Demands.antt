@@ -8,7 +8,7 @@
 use mathlib.Core.Path.{_≡_}
 use mathlib.Core.Bool.{Bool, true, false, not, _&&_, _||_}
 use mathlib.Core.List.{List, [], _∷_, _++_, map}
-use mathlib.Core.Option.{some}
+use mathlib.Core.Option.{Option, none, some}
 use Prim.Native.Nat.{ℕ, _*_, _<_}
 use lib.Dec.{eqb}
 use lib.ListN.{length}
@@ -20,20 +20,21 @@ use Rattle.record.specs.declared.State.{State}
 use Rattle.record.specs.declared.Record.{Record}
 use Rattle.record.specs.Parts.{idOf}
 use Rattle.record.specs.Event.{bit, anyEnabled}
+use Rattle.record.specs.Windows.{windowNo}
 use Rattle.replies.specs.Numbers.{success, badTable}
 use Rattle.replies.specs.declared.Reply.{Reply}
 use Rattle.replies.specs.Answers.{Answer, granted, refused, refusing}
 use Rattle.table.specs.Table.{legalSets, legalTable, written, listedMarks, recordsOf}
 use Rattle.pages.specs.Features.{configIn, configPage}
 use Rattle.pages.specs.Aggregate.{picked, aggregatePage}
-use Rattle.octets.specs.Lists.{nth, keep, beside, join}
+use Rattle.octets.specs.Lists.{nth, first, keep, beside, join}
 use Rattle.steps.specs.Items.{Card, Item, reads, writes, excursion, tick, command, GivenBytes, itemOf, All, View, Meaning, Nobody, Everybody, The}
 use Rattle.commands.specs.declared.Kind.{Kind}
 use Rattle.commands.specs.declared.Kind.the-variants.{SetConfig, SetWindow, GetConfig, GetWindow, ReadAggregate, Identify}
 use Rattle.commands.specs.Commands.{dwordSize, commandIn, featureSet, enable, windowValue, offset, dwords}
 use Rattle.commands.specs.Shapes.{setOpcode, configFid, hasOpcode, hasChoice, kindOf, isNamed, namedBy}
 use Rattle.steps.specs.Meanings.{meaning}
-use Rattle.steps.specs.Card.{effectOn, ruled, refusalOf, names, answer, step, run, trace}
+use Rattle.steps.specs.Card.{effectOn, ruled, refusalOf, has, names, answer, step, run, trace}
 use Rattle.steps.specs.Words.{cardOf, stepWords, Answered, Handed}
 use Rattle.rules.specs.declared.Media.{Media}
 use Rattle.steps.specs.Rows.{Told, commandRows, eventRows, tickRows}
@@ -275,7 +276,7 @@ SwapWithin =
 abbrev pub stores13 : Kind → Bool
 stores13 k = hasOpcode setOpcode k && hasChoice configFid k
 
--- a Set Features 13h that names a set, carried out or refused
+-- a Set Features 13h that names a set
 abbrev pub configures : ℕ → Item → Bool
 configures id (reads named k) = false
 configures id (writes named k) = false
@@ -283,13 +284,19 @@ configures id (excursion named) = false
 configures id (tick t room) = false
 configures id (command bytes given room) = stores13 (kindOf (commandIn bytes)) && eqb (featureSet (commandIn bytes)) id
 
--- "Get returns enable with the 512 bytes": those of the last Set Features 13h of the set, whatever other items came between.
+-- no such item of a history is carried out
+abbrev pub noneConfigures : Card → ℕ → List Item → Bool
+noneConfigures c id [] = true
+noneConfigures c id (i ∷ is) = not (configures id i && eqb (refusalOf c i) 0) && noneConfigures (step c i .card) id is
+
+-- "Get returns enable with the 512 bytes": those of the last Set Features 13h of the set that was carried out, whatever other items
+-- came between, refused ones too.
 -- That the page says what was stored is `config-back` of pages/proofs/Back.antt.
 abbrev pub ConfigStored : Type 0
 ConfigStored =
     (c : Card) (bytes given : List ℕ) (room : ℕ) (items : List Item) (bytes′ given′ : List ℕ) (room′ : ℕ)
     → kindOf (commandIn bytes) ≡ SetConfig → answer c (command bytes given room) .status ≡ success
-    → noneOf (configures (featureSet (commandIn bytes))) items ≡ true
+    → noneConfigures (step c (command bytes given room) .card) (featureSet (commandIn bytes)) items ≡ true
     → kindOf (commandIn bytes′) ≡ GetConfig → featureSet (commandIn bytes′) ≡ featureSet (commandIn bytes)
     → answer (run c (command bytes given room ∷ items)) (command bytes′ given′ room′) .status ≡ success
     → answer (run c (command bytes given room ∷ items)) (command bytes′ given′ room′)
@@ -297,16 +304,26 @@ ConfigStored =
 
 -- ---- 14h
 
--- an item that names a set, or goes to every set
-abbrev pub reachesSet : ℕ → Item → Bool
-reachesSet id i = names id i || toAll i
+-- a set's window by its number, where there is a set
+abbrev pub shownWindow : Option Record → ℕ
+shownWindow none = 0
+shownWindow (some r) = windowNo (r .state .window)
 
--- "or the window, in dword 0": that of the last Set Features 14h, as long as no event, no tick and no command reaches the set
+-- that of the set with an identifier
+abbrev pub windowOf : Card → ℕ → ℕ
+windowOf c id = shownWindow (first (has id) (c .sets))
+
+-- no item of a history moves the set to another window
+abbrev pub noneMoves : Card → ℕ → List Item → Bool
+noneMoves c id [] = true
+noneMoves c id (i ∷ is) = eqb (windowOf (step c i .card) id) (windowOf c id) && noneMoves (step c i .card) id is
+
+-- "or the window, in dword 0": that of the last Set Features 14h, as long as nothing moves the window, whatever else comes
 abbrev pub WindowStored : Type 0
 WindowStored =
     (c : Card) (bytes given : List ℕ) (room : ℕ) (items : List Item) (bytes′ given′ : List ℕ) (room′ : ℕ)
     → kindOf (commandIn bytes) ≡ SetWindow → answer c (command bytes given room) .status ≡ success
-    → noneOf (reachesSet (featureSet (commandIn bytes))) items ≡ true
+    → noneMoves (step c (command bytes given room) .card) (featureSet (commandIn bytes)) items ≡ true
     → kindOf (commandIn bytes′) ≡ GetWindow → featureSet (commandIn bytes′) ≡ featureSet (commandIn bytes)
     → answer (run c (command bytes given room ∷ items)) (command bytes′ given′ room′) .status ≡ success
     → answer (run c (command bytes given room ∷ items)) (command bytes′ given′ room′)

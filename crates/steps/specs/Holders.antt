@@ -1,27 +1,30 @@
--- Demand 3 at the place where users call: said once, of anything that holds a card and takes items, and of any calls to it, one after
+-- Demand 3, and "hands back", at the place where users call: said once, of anything that holds a card and takes items, and of any calls to it, one after
 -- another. What is supposed of a call is only what its function promises; no run of the step stands in a hypothesis.
 use mathlib.Core.Path.{_≡_}
-use mathlib.Core.Bool.{Bool, true, false}
+use mathlib.Core.Bool.{Bool, true, false, not, _&&_}
 use mathlib.Core.List.{List, [], _∷_, _++_, map}
 use mathlib.Core.Option.{some}
 use Prim.Native.Nat.{ℕ, _*_}
+use lib.Dec.{eqb}
 use lib.ListN.{length}
 use lib.Seq.{sets}
 use Rattle.octets.specs.Octets.{padded}
 use Rattle.octets.specs.Lists.{nth, keep, beside}
 use Rattle.record.specs.declared.Record.{Record}
 use Rattle.record.specs.Parts.{idOf}
+use Rattle.record.specs.Event.{bit}
 use Rattle.replies.specs.declared.Reply.{Reply}
 use Rattle.replies.specs.Answers.{Answer, granted}
 use Rattle.table.specs.Table.{recordsOf, legalTable, listedMarks}
+use Rattle.pages.specs.Features.{configIn, configPage}
 use Rattle.pages.specs.Aggregate.{aggregatePage}
-use Rattle.commands.specs.declared.Kind.the-variants.{ReadAggregate}
-use Rattle.commands.specs.Commands.{dwordSize, commandIn, offset, dwords}
+use Rattle.commands.specs.declared.Kind.the-variants.{SetConfig, SetWindow, GetConfig, GetWindow, ReadAggregate}
+use Rattle.commands.specs.Commands.{dwordSize, commandIn, featureSet, enable, windowValue, offset, dwords}
 use Rattle.commands.specs.Shapes.{kindOf}
 use Rattle.steps.specs.Items.{Item, command}
 use Rattle.steps.specs.Card.{names, trace}
 use Rattle.steps.specs.Words.{cardOf, stepWords, Answered, Handed}
-use Rattle.steps.specs.Demands.{alone, own, lived, pendingIds, Rising, noneOf}
+use Rattle.steps.specs.Demands.{alone, own, lived, pendingIds, Rising, noneOf, configures, windowOf}
 
 -- What holds a card and takes items.
 pub record Holder : Type 1 where
@@ -133,14 +136,51 @@ module _ (H : Holder) where
       → names a (H .item i) ≡ true → names b (H .item j) ≡ true → (a ≡ b → ⊥)
       → (last H h cs ≡ last H h ds) × Exchanged (backs H cs) (backs H ds)
 
+-- ---- demand 2, of a holder: "What Set Features stores, Get Features hands back."
+
+-- no call that passes a test is carried out
+abbrev pub noneDone : (H : Holder) → (Item → Bool) → List (Called H) → Bool
+noneDone H p [] = true
+noneDone H p (c ∷ cs) = not (p (H .item (c .lent)) && eqb (H .status (c .back)) 0) && noneDone H p cs
+
+-- after each call a set is in the window that it was in before
+abbrev pub noneMoved : (H : Holder) → ℕ → H .Held → List (Called H) → Bool
+noneMoved H id h [] = true
+noneMoved H id h (c ∷ cs) = eqb (windowOf (cardOf (H .words (c .held))) id) (windowOf (cardOf (H .words h)) id) && noneMoved H id (c .held) cs
+
+module _ (H : Holder) where
+  -- a Set Features 13h that succeeds, calls of which no other 13h of that set is carried out, and a Get Features 13h that succeeds
+  abbrev pub ConfigBack : Type 0
+  ConfigBack =
+      (h : H .Held) (c : Called H) (cs : List (Called H)) (d : Called H) (bytes given : List ℕ) (room : ℕ) (bytes′ given′ : List ℕ) (room′ : ℕ)
+      → legalTable (H .words h) ≡ true → History H h (c ∷ cs) → H .Call (last H h (c ∷ cs)) (d .lent) (d .back) (d .held)
+      → H .item (c .lent) ≡ command bytes given room → kindOf (commandIn bytes) ≡ SetConfig → H .status (c .back) ≡ 0
+      → noneDone H (configures (featureSet (commandIn bytes))) cs ≡ true
+      → H .item (d .lent) ≡ command bytes′ given′ room′ → kindOf (commandIn bytes′) ≡ GetConfig
+      → featureSet (commandIn bytes′) ≡ featureSet (commandIn bytes) → H .status (d .back) ≡ 0
+      → d .back ≡ H .shows (d .lent) (granted (bit (enable (commandIn bytes))) (configPage (configIn given)))
+
+  -- the same of 14h, where nothing moves the set's window in between
+  abbrev pub WindowBack : Type 0
+  WindowBack =
+      (h : H .Held) (c : Called H) (cs : List (Called H)) (d : Called H) (bytes given : List ℕ) (room : ℕ) (bytes′ given′ : List ℕ) (room′ : ℕ)
+      → legalTable (H .words h) ≡ true → History H h (c ∷ cs) → H .Call (last H h (c ∷ cs)) (d .lent) (d .back) (d .held)
+      → H .item (c .lent) ≡ command bytes given room → kindOf (commandIn bytes) ≡ SetWindow → H .status (c .back) ≡ 0
+      → noneMoved H (featureSet (commandIn bytes)) (c .held) cs ≡ true
+      → H .item (d .lent) ≡ command bytes′ given′ room′ → kindOf (commandIn bytes′) ≡ GetWindow
+      → featureSet (commandIn bytes′) ≡ featureSet (commandIn bytes) → H .status (d .back) ≡ 0
+      → d .back ≡ H .shows (d .lent) (granted (windowValue (commandIn bytes)) [])
+
 -- All of it, under one name.
-pub record Demand3 (H : Holder) : Type 0 where
+pub record Demanded (H : Holder) : Type 0 where
   pub stays-legal : StaysLegal H
   pub own-records : OwnRecords H
   pub own-answers-back : OwnAnswersBack H
   pub aggregate-back : AggregateBack H
   pub never-lost : NeverLost H
   pub swaps-back : SwapsBack H
+  pub config-handed : ConfigBack H
+  pub window-handed : WindowBack H
 
 -- What is asked of a holder for that: each call goes by the step on the words that it holds.
 pub record Steps (H : Holder) : Type 0 where
@@ -187,7 +227,7 @@ heldWords =
 
 -- proved as `words-demand` in proofs/HeldWords.antt
 abbrev pub WordsDemand : Type 0
-WordsDemand = Demand3 heldWords
+WordsDemand = Demanded heldWords
 
 -- ---- the lent words, where a command hands back the written part; nothing is said of the bytes after it
 
@@ -216,4 +256,4 @@ heldPart =
 
 -- proved as `part-demand` in proofs/HeldWords.antt
 abbrev pub PartDemand : Type 0
-PartDemand = Demand3 heldPart
+PartDemand = Demanded heldPart
