@@ -15,7 +15,8 @@ past n ws = drop (rowStart n) ws
 
 -- ---- "nor written": they are as before, and as many
 
--- after any item, on any words: past as many sets as the header says, and all words where that table is not legal
+-- after any item, on any words: past as many sets as the header says. (Where the table is not legal, `RefusedWords` says that no
+-- word at all is written.)
 pub record Unwritten (ws : List ℕ) (i : Item) : Type 0 where
   pub rest : past (count ws) (stepWords ws i .table) ≡ past (count ws) ws
   pub long : length (stepWords ws i .table) ≡ length ws
@@ -37,7 +38,8 @@ SetUpNotWritten = (bytes ws : List ℕ) → UnwrittenNew bytes ws
 abbrev pub beside : Result → List ℕ → Result
 beside r more = record { table = r .table ++ more; answer = r .answer }
 
--- any item, where the words have room for as many sets as the header says (where they have not, the table is refused)
+-- any item, where the words have room for as many sets as the header says. (Where they have not, the table is refused: `step-unsized`
+-- of proofs/PastWords.antt.)
 abbrev pub NotRead : Type 0
 NotRead = (more ws : List ℕ) → rowStart (count ws) ≤ length ws → (i : Item) → stepWords (ws ++ more) i ≡ beside (stepWords ws i) more
 
