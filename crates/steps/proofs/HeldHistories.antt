@@ -1,27 +1,26 @@
 -- Demand 3 of any holder whose calls go by the step: a history of calls is a run of the step on its words.
 use mathlib.Core.Path.{_≡_, refl, sym, ap, subst, _∙_}
-use mathlib.Core.Bool.{Bool, true, false, not, _&&_}
+use mathlib.Core.Bool.{true, not, _&&_}
 use mathlib.Core.List.{List, [], _∷_, _++_, map, map-map, map-append}
-use mathlib.Core.Option.{Option, some}
 use mathlib.Core.Logic.{⊎-elim}
 use Prim.Native.Nat.{ℕ, suc, _≤_}
 use native.Mathlib.Omega.{arith}
 use lib.Dec.{eqb}
 use lib.ListN.{length, length-map, length-append}
-use Rattle.octets.specs.Lists.{nth, keep, beside}
+use Rattle.octets.specs.Lists.{nth, beside}
 use Rattle.octets.proofs.JoinedTests.{both, together}
 use Rattle.record.specs.declared.Record.{Record}
 use Rattle.record.specs.Parts.{idOf}
 use Rattle.replies.specs.Answers.{Answer}
 use Rattle.table.specs.Card.{Card}
-use Rattle.table.specs.Table.{recordsOf, legalTable, listedMarks, written}
+use Rattle.table.specs.Table.{recordsOf, legalTable, listedMarks}
 use Rattle.table.proofs.LegalTables.{legal-known, sets-known}
 use Rattle.table.proofs.Written.{length-written}
 use Rattle.steps.specs.Items.{Item, command}
-use Rattle.steps.specs.Card.{names, refusalOf, answer, step, run, trace}
+use Rattle.steps.specs.Card.{names, refusalOf, answer, step, run}
 use Rattle.steps.specs.Words.{cardOf, stepWords}
-use Rattle.steps.specs.Demands.{own, pendingIds, configures, noneConfigures, windowOf, noneMoves, runWords, traceWords}
-use Rattle.steps.specs.Holders.{Holder, Called, History, last, items, lents, backs, shown, naming, Exchanged, StaysLegal, OwnRecords, OwnAnswersBack, AggregateBack, NeverLost, SwapsBack, noneDone, noneMoved, ConfigBack, WindowBack, Demanded, Steps}
+use Rattle.steps.specs.Demands.{configures, noneConfigures, windowOf, noneMoves, runWords, traceWords}
+use Rattle.steps.specs.Holders.{Holder, Called, History, last, items, lents, backs, shown, naming, StaysLegal, OwnRecords, OwnAnswersBack, AggregateBack, NeverLost, SwapsBack, noneDone, noneMoved, ConfigBack, WindowBack, Demanded, Steps}
 use Rattle.steps.proofs.ItemShapes.{bool-cases}
 use Rattle.steps.proofs.KeptLegal.{step-keeps, step-back}
 use Rattle.steps.proofs.ExactRefusals.{answers}

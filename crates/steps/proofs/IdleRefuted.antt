@@ -1,6 +1,6 @@
 -- The five idle builds of specs/IdleBuilds.antt, each refuted by what is computed or proved of the step itself.
-use mathlib.Core.Path.{_≡_, refl, sym, ap, _∙_}
-use mathlib.Core.Bool.{Bool, true, false, _&&_}
+use mathlib.Core.Path.{_≡_, refl, ap, _∙_}
+use mathlib.Core.Bool.{Bool, true, false}
 use mathlib.Core.List.{List, [], _∷_, map}
 use Prim.Native.Nat.{ℕ, zero, suc, _+_, _*_, _≤_, _<_, _^_}
 use native.Mathlib.Omega.{arith}
@@ -22,10 +22,9 @@ use Rattle.replies.specs.Answers.{Answer}
 use Rattle.pages.specs.Aggregate.{aggregateSize, listFields, aggregatePage}
 use Rattle.pages.proofs.Listed.{aggregate-back}
 use Rattle.commands.specs.Commands.{dwordSize, commandIn, dwords}
-use Rattle.steps.specs.Items.{Card, Item, reads}
+use Rattle.steps.specs.Items.{reads}
 use Rattle.steps.specs.Meanings.{meaning}
 use Rattle.steps.specs.Card.{refusalOf, effectOn, concerns, touched, answer}
-use Rattle.steps.specs.Demands.{pendingIds}
 use Rattle.steps.specs.Edges.{inD}
 use Rattle.steps.specs.IdleBuilds.{NotRefusingAll, NotAlike, NotStill, NotFirstOnly, MarksCounted}
 use Rattle.steps.proofs.Slots.{ordered}

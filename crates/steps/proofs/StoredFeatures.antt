@@ -1,7 +1,7 @@
 -- Demand 2: "What Set Features stores, Get Features hands back."
 use mathlib.Core.Path.{_≡_, refl, sym, ap, subst, _∙_}
-use mathlib.Core.Bool.{Bool, true, false, not, _&&_, _||_, or-false, false≢true}
-use mathlib.Core.List.{List, [], _∷_, _++_}
+use mathlib.Core.Bool.{Bool, true, false, not, _&&_, _||_, false≢true}
+use mathlib.Core.List.{List, [], _∷_}
 use mathlib.Core.Option.{Option, none, some}
 use mathlib.Core.Logic.{⊎-elim}
 use Prim.Native.Nat.{ℕ, _+_}
@@ -20,10 +20,9 @@ use Rattle.record.specs.declared.State.{State}
 use Rattle.record.specs.declared.Record.{Record}
 use Rattle.record.specs.declared.Effect.{Effect}
 use Rattle.record.specs.Parts.{idOf}
-use Rattle.record.specs.Quantities.{limit, spentOf, spending}
+use Rattle.record.specs.Quantities.{limit, spentOf}
 use Rattle.record.specs.Event.{bit}
 use Rattle.record.specs.Windows.{byWindow, windowNo}
-use Rattle.replies.specs.Status.{line}
 use Rattle.commands.proofs.Passed.{early-passed, late-passed, unknown-not-zero}
 use Rattle.rules.specs.declared.Cause.{Cause}
 use Rattle.rules.specs.declared.Cause.the-variants.{Excursion, Exceeded, TimeUp}
@@ -43,10 +42,10 @@ use Rattle.commands.specs.Shapes.{kindOf}
 use Rattle.commands.specs.StatusTable.{isOff, noWindow, lateLines}
 use Rattle.steps.specs.Commanded.{modeNo, named, meaningBy, commandMeaning}
 use Rattle.steps.specs.Meanings.{meaning}
-use Rattle.steps.specs.Card.{refusalAt, refusalOne, refusalBy, refusalOf, has, effectBy, effectOn, names, namesBy, concernsBy, concerns, touched, after, answer, run}
+use Rattle.steps.specs.Card.{refusalAt, refusalOne, refusalBy, refusalOf, has, effectBy, effectOn, concernsBy, concerns, touched, after, answer, run}
 use Rattle.steps.specs.Demands.{stores13, configures, noneConfigures, ConfigStored, shownWindow, windowOf, noneMoves, WindowStored}
 use Rattle.steps.proofs.ExactRefusals.{answers}
-use Rattle.octets.proofs.Lists.{first-map, first-passes, first-fixed}
+use Rattle.octets.proofs.Lists.{first-map, first-passes}
 use Rattle.steps.proofs.ItemShapes.{bool-cases, touched-own, touched-not, keeps}
 use Rattle.steps.proofs.OwnHistory.{has-same}
 

@@ -9,7 +9,6 @@ use lib.Dec.{eqb}
 use lib.ListN.{length, length-map}
 use Rattle.octets.specs.Choice.{if_then_else_}
 use Rattle.octets.specs.Octets.{AllBytes}
-use Rattle.octets.specs.Words.{AllWords}
 use Rattle.record.specs.declared.Attributes.{Attributes}
 use Rattle.record.specs.declared.Config.{Config}
 use Rattle.record.specs.declared.State.{State}
@@ -18,10 +17,10 @@ use Rattle.record.specs.declared.Record.{Record}
 use Rattle.record.specs.Parts.{idOf}
 use Rattle.rules.specs.Rules as rules
 use Rattle.rules.proofs.Staying.{KeepsConfig, read-stays, write-stays, excursion-stays, tick-stays, select-stays}
-use Rattle.table.specs.Table.{recordsOf, legalSets, legalTable}
+use Rattle.table.specs.Table.{recordsOf, legalSets}
 use Rattle.table.proofs.LegalTables.{legal-known, length-records, sets-known}
 use Rattle.table.proofs.WordsFit.{Fits, fits-of, words-fit, AllFit, records-fit, written-fit}
-use Rattle.pages.specs.Features.{Words, configIn}
+use Rattle.pages.specs.Features.{Words}
 use Rattle.pages.proofs.Back.{read-words}
 use Rattle.commands.specs.declared.Command.{Command}
 use Rattle.commands.specs.declared.Kind.{Kind}
@@ -32,7 +31,7 @@ use Rattle.steps.specs.Items.{Item, reads, writes, excursion, tick, comm
 use Rattle.steps.specs.Commanded.{meaningBy, commandMeaning}
 use Rattle.steps.specs.Meanings.{meaning}
 use Rattle.steps.specs.Card.{refusalAt, effectBy, effectOn, concerns, touched, after}
-use Rattle.steps.specs.Words.{cardOf, stepWords}
+use Rattle.steps.specs.Words.{cardOf}
 use Rattle.steps.specs.Demands.{WordsStay}
 use Rattle.steps.proofs.ItemShapes.{bool-cases, touched-own, touched-not}
 use Rattle.steps.proofs.Slots.{ordered}

@@ -30,7 +30,7 @@ use Rattle.pages.specs.Aggregate.{picked, aggregatePage}
 use Rattle.octets.specs.Lists.{nth, first, keep, beside, join}
 use Rattle.steps.specs.Items.{Card, Item, reads, writes, excursion, tick, command, GivenBytes, itemOf, All, View, Meaning, Nobody, Everybody, The}
 use Rattle.commands.specs.declared.Kind.{Kind}
-use Rattle.commands.specs.declared.Kind.the-variants.{SetConfig, SetWindow, GetConfig, GetWindow, ReadAggregate, Identify}
+use Rattle.commands.specs.declared.Kind.the-variants.{SetConfig, SetWindow, GetConfig, GetWindow, ReadAggregate}
 use Rattle.commands.specs.Commands.{dwordSize, commandIn, featureSet, enable, windowValue, offset, dwords}
 use Rattle.commands.specs.Shapes.{setOpcode, configFid, hasOpcode, hasChoice, kindOf, isNamed, namedBy}
 use Rattle.steps.specs.Meanings.{meaning}

@@ -1,7 +1,7 @@
 -- Demand 3, and "hands back", at the place where users call: said once, of anything that holds a card and takes items, and of any calls to it, one after
 -- another. What is supposed of a call is only what its function promises; no run of the step stands in a hypothesis.
 use mathlib.Core.Path.{_≡_}
-use mathlib.Core.Bool.{Bool, true, false, not, _&&_}
+use mathlib.Core.Bool.{Bool, true, not, _&&_}
 use mathlib.Core.List.{List, [], _∷_, _++_, map}
 use mathlib.Core.Option.{some}
 use Prim.Native.Nat.{ℕ, _*_}

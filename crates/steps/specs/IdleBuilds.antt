@@ -2,7 +2,7 @@
 -- Each is proved under its name, in lower case and with dashes, in proofs/IdleRefuted.antt.
 use mathlib.Core.Path.{_≡_}
 use mathlib.Core.Bool.{true}
-use mathlib.Core.List.{List, [], _∷_}
+use mathlib.Core.List.{List, _∷_}
 use Prim.Native.Nat.{ℕ, _≤_}
 use lib.ListN.{length}
 use Rattle.octets.specs.Octets.{numberOf, part}
