@@ -1,5 +1,5 @@
--- Demand 3 of the functions for C, called one after another on one region of bytes: crates/steps/specs/Holders.antt says what is
--- demanded of any holder of a card, and here is this one.
+-- Demand 3, and "hands back" of demand 2, of the functions for C, called one after another on one region of bytes:
+-- crates/steps/specs/Holders.antt says what is demanded of any holder of a card, and here is this one.
 -- A history is any list of calls, each lent the region that the one before has left, of which each function's promise holds
 -- (`AnsweredAtC`, what a card_ function ensures). Beside it nothing is supposed but that bytes are bytes, as their type says.
 -- Proved under its name, in lower case and with dashes, in proofs/HeldByC.antt.
@@ -61,6 +61,7 @@ SetUpLegalAtC =
 abbrev pub NoticeNeverLost : Type 0
 NoticeNeverLost = NeverLost heldByC
 
--- All of demand 3: own record, own answers, the aggregate log exact and rising, and swapping with not one byte changed.
+-- All of it: own record, own answers, the aggregate log exact and rising, swapping with not one byte changed, and "What Set Features
+-- stores, Get Features hands back."
 abbrev pub DemandAtC : Type 0
 DemandAtC = Demanded heldByC
