@@ -15,7 +15,7 @@ use Rattle.table.proofs.LegalTables.{length-records}
 use Rattle.table.proofs.Turns.{later, later-none, later-more, later-all}
 use Rattle.pages.specs.Aggregate.{listedBy, aggregatePage}
 use Rattle.pages.specs.Identify.{identifyEntries, entrySize, firstEntry, Shows}
-use Rattle.pages.proofs.Listed.{word-below, listed-marks}
+use Rattle.pages.proofs.Listed.{word-below, one-word}
 use Rattle.pages.proofs.Entries.{Showing, show-start, show-room, show-turn, show-end}
 use Rattle.steps.specs.Commanded.{listedIds}
 use Rattle.by_value.specs.Views.{attributesOf, ShowsAll}
@@ -50,7 +50,7 @@ module _ (ws : List ℕ) (l : Legal ws) (n : ℕ) (ids : List ℕ) (word : ℕ) 
 
   pub aggregate-is : (p : List ℕ) → p ≡ aggregatePage (listedBy word (take (n - 0) ids)) → p ≡ aggregatePage (listedIds (recordsOf ws))
   aggregate-is p h =
-      h ∙ ap aggregatePage (rw (ids-are, ew) (listed-marks (map idOf (recordsOf ws)) (listedMarks (recordsOf ws)) (simp length-map)))
+      h ∙ ap aggregatePage (rw (ids-are, ew) (one-word (map idOf (recordsOf ws)) (listedMarks (recordsOf ws)) (simp length-map)))
 
 -- ---- Identify
 

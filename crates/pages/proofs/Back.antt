@@ -1,22 +1,26 @@
 -- What is laid out is read back.
 use mathlib.Core.Path.{_≡_, refl, sym, ap, _∙_}
 use mathlib.Core.Bool.{Bool, true, false}
-use mathlib.Core.List.{List}
-use Prim.Native.Nat.{ℕ, _+_, _-_, _%_, _^_, _≤_, _<_}
-use native.Mathlib.Nat.{zero-add, mod-eq-of-lt}
+use mathlib.Core.List.{List, [], _∷_, _++_}
+use mathlib.Core.Logic.{⊎-elim, _⊎_, inl, inr}
+use Prim.Native.Nat.{ℕ, zero, suc, _+_, _*_, _-_, _/_, _%_, _^_, _≤_, _<_}
+use native.Mathlib.Nat.{zero-add, mod-eq-of-lt, mod-lt, div-add-mod', eq-zero-or-pos}
 use native.Mathlib.Omega.{arith}
 use borrow.Author.Needs.{needs}
-use lib.Dec.{eqb}
-use lib.ListN.{length, getD}
-use lib.Seq.{sets}
+use lib.Bits.{bitAnd, and-block, and-mask}
+use lib.Dec.{eqb, lit<}
+use lib.ListN.{length, getD, take, drop, replicate, length-append, length-take, length-drop, length-replicate}
+use lib.Seq.{sets, length-sets, sets-eq, take-append-add, take-add, drop-drop}
 use borrow.Author.Tests.{leb-true}
 use Rattle.octets.specs.Choice.{if_then_else_}
-use Rattle.octets.specs.Octets.{part, AllBytes}
+use Rattle.octets.specs.Octets.{bytesOf, numberOf, part, AllBytes}
 use Rattle.octets.specs.declared.Place.{Place}
-use Rattle.octets.specs.Pages.{readAt, Fit, readings, values}
+use Rattle.octets.specs.Pages.{readAt, fieldsAt, puts, Fit, readings, values}
 use Rattle.octets.proofs.JoinedTests.{and-left, and-right}
-use Rattle.octets.proofs.Runs.{Apart, part-same, part-other}
-use Rattle.octets.proofs.Pages.{read-back}
+use Rattle.octets.proofs.Runs.{Apart, part-same, part-other, drop-sets, sets-join}
+use Rattle.octets.proofs.Below.{part-below}
+use Rattle.octets.proofs.WordBytes.{bytes-number}
+use Rattle.octets.proofs.Pages.{placed, read-back}
 use Rattle.record.specs.declared.Attributes.{Attributes}
 use Rattle.record.specs.declared.Capacity.{Capacity}
 use Rattle.record.specs.declared.Events.{Events}
@@ -37,7 +41,7 @@ use Rattle.octets.specs.Numbers.{numberAt}
 use Rattle.pages.specs.Capacities.{lowHalf, highHalf, capacityIn}
 use Rattle.pages.specs.Bodies.{bodySize, bodyId, bodyGroup, bodyRandomRead, bodyOptimalWrite, bodyTotal, bodyUnallocated, bodyReads, bodyWrites, bodyTime, bodyHigh, bodyLow, bodyFields, body, attributesIn, keptOf, Sized}
 use Rattle.pages.specs.Latency.{latencySize, latencyFields, latencyPage}
-use Rattle.pages.specs.Features.{featureSize, configReads, configWrites, configTime, configFields, configPage, configIn, Words}
+use Rattle.pages.specs.Features.{featureSize, configEnabled, configReads, configWrites, configTime, configPlaces, configFields, configPage, configIn, enevMask, handedBack, DataBack, Words}
 use Rattle.octets.proofs.Pages.{length-place}
 use Rattle.octets.proofs.Reading.{read-below, number-within}
 
@@ -211,6 +215,98 @@ read-words bytes each =
       writes = read-below bytes each (configWrites .at) (configWrites .width);
       time = read-below bytes each (configTime .at) (configTime .width);
     }
+
+-- ---- from data in to data out
+
+odd-or-even : (w : ℕ) → (w % 2 ≡ 0) ⊎ (w % 2 ≡ 1)
+odd-or-even w = ⊎-elim inl (λ p. inr (omega arith)) (eq-zero-or-pos (w % 2))
+
+bit-of : (w : ℕ) → bit (eqb (w % 2) 1) ≡ w % 2
+bit-of w = ⊎-elim (λ (e : w % 2 ≡ 0). rw e) (λ (e : w % 2 ≡ 1). rw e) (odd-or-even w)
+
+-- the bits of the events that a number says are those within the mask
+two-bits : (x : ℕ) → x % 4 ≡ x % 2 + 2 * (x / 2 % 2)
+two-bits x = omega arith
+
+low-bits : (x : ℕ) → x / 2 ^ 0 % 2 + 2 * (x / 2 ^ 1 % 2) + 4 * (x / 2 ^ 2 % 2) ≡ x % 2 ^ 14 % 2 ^ 3
+low-bits x =
+    let within : x % 2 ^ 14 % 2 ^ 3 ≡ x % 8 = omega arith in
+    let lowest : x % 8 ≡ x % 2 + 2 * (x / 2 % 4) = omega arith in
+    let one : x / 2 ^ 0 ≡ x = omega arith in
+    let quarter : x / 2 ^ 2 ≡ x / 2 / 2 = omega arith in
+    rw (one, quarter) (omega (arith, within, lowest, two-bits (x / 2)))
+
+high-bits : (x : ℕ) → 0x4000 * (x / 2 ^ 14 % 2) + 0x8000 * (x / 2 ^ 15 % 2) ≡ x / 2 ^ 14 % 2 ^ 2 * 2 ^ 14
+high-bits x = omega arith
+
+masked : (x : ℕ) → bitsOf (eventsIn x) ≡ bitAnd x enevMask
+masked x =
+    let whole : x / 2 ^ 14 * 2 ^ 14 + x % 2 ^ 14 ≡ x = div-add-mod' x (2 ^ 14) in
+    let halves = and-block 14 (x / 2 ^ 14) 3 (x % 2 ^ 14) 7 (mod-lt x (lit< tt)) (lit< tt) in
+    let and : bitAnd x enevMask ≡ x / 2 ^ 14 % 2 ^ 2 * 2 ^ 14 + x % 2 ^ 14 % 2 ^ 3
+    = ap (λ (y : ℕ). bitAnd y enevMask) (sym whole) ∙ halves ∙ rw (and-mask (x / 2 ^ 14) 2, and-mask (x % 2 ^ 14) 3) in
+    rw (bit-of (x / 2 ^ 0), bit-of (x / 2 ^ 1), bit-of (x / 2 ^ 2), bit-of (x / 2 ^ 14), bit-of (x / 2 ^ 15)) (omega (arith, and, low-bits x, high-bits x))
+
+-- of a page, two runs that are put on it
+two-runs : (z b q : List ℕ) (gap : ℕ) → length b + gap + length q ≤ length z
+    → sets (sets z 0 b) (length b + gap) q ≡ b ++ take gap (drop (length b) z) ++ q ++ drop (length b + gap + length q) z
+two-runs z b q gap h =
+    let front : sets z 0 b ≡ b ++ drop (length b) z = sets-eq b z 0 (omega arith) ∙ rw zero-add in
+    let start : take (length b + gap) (sets z 0 b) ≡ b ++ take gap (drop (length b) z) = rw front (take-append-add b (drop (length b) z) gap) in
+    sets-eq q (sets z 0 b) (length b + gap) (omega (arith, length-sets z 0 b))
+    ∙ rw (start, drop-sets b z 0 (length b + gap + length q) (omega arith))
+
+-- three parts that follow one another are one
+three-parts : (l : List ℕ) (at n : ℕ) → (part l at n ++ part l (at + n) n) ++ part l (at + n + n) n ≡ part l at (n + n + n)
+three-parts l at n =
+    let e : at + (n + n) ≡ at + n + n = omega arith in
+    rw (take-add (n + n) n (drop at l), take-add n n (drop at l), drop-drop (n + n) at l, drop-drop n at l, e)
+
+-- the fields of the data put on a page
+put-config : (z given : List ℕ) (enabled : ℕ) → length z ≡ featureSize → AllBytes given → featureSize ≤ length given
+    → puts z (fieldsAt configPlaces (enabled ∷ readAt given 0 configReads ∷ readAt given 0 configWrites ∷ readAt given 0 configTime ∷ []))
+    ≡ bytesOf 2 enabled ++ take 30 (drop 2 z) ++ part given 32 24 ++ drop 56 z
+put-config z given enabled long each room =
+    let y : List ℕ = sets z 0 (bytesOf 2 enabled) in
+    let long-at : (at : ℕ) → at + 8 ≤ featureSize → length (part given at 8) ≡ 8 = λ at h. simp (length-take, length-drop) (omega arith) in
+    let own-bytes : ℕ → List ℕ = λ at. bytesOf 8 (numberOf (part given at 8)) in
+    let own : (at : ℕ) → at + 8 ≤ featureSize → bytesOf 8 (numberOf (part given at 8)) ≡ part given at 8
+    = λ at h. bytes-number (part given at 8) 8 (long-at at h) (part-below 256 (lit< tt) given at 8 each) in
+    let join-at : (k : ℕ) (xs ys : List ℕ) → k ≡ 32 + length xs → sets (sets y 32 xs) k ys ≡ sets y 32 (xs ++ ys) = λ k xs ys e. rw e (sets-join xs ys y 32) in
+    let joined : sets (sets (sets y 32 (part given 32 8)) 40 (part given 40 8)) 48 (part given 48 8) ≡ sets y 32 (part given 32 24)
+    = ap (λ (l : List ℕ). sets l 48 (part given 48 8)) (join-at 40 (part given 32 8) (part given 40 8) (omega (arith, long-at 32 (omega arith))))
+    ∙ join-at 48 (part given 32 8 ++ part given 40 8) (part given 48 8)
+    (omega (arith, length-append (part given 32 8) (part given 40 8), long-at 32 (omega arith), long-at 40 (omega arith)))
+    ∙ ap (sets y 32) (three-parts given 32 8) in
+    let whole : length (part given 32 24) ≡ 24 = simp (length-take, length-drop) (omega arith) in
+    let with-parts : List ℕ → List ℕ → List ℕ → List ℕ = λ r w t. sets (sets (sets y 32 r) 40 w) 48 t in
+    ap (λ (r : List ℕ). with-parts r (own-bytes 40) (own-bytes 48)) (own 32 (omega arith))
+    ∙ ap (λ (w : List ℕ). with-parts (part given 32 8) w (own-bytes 48)) (own 40 (omega arith))
+    ∙ ap (with-parts (part given 32 8) (part given 40 8)) (own 48 (omega arith))
+    ∙ joined
+    ∙ two-runs z (bytesOf 2 enabled) (part given 32 24) 30 (omega (arith, whole))
+    ∙ ap (λ (n : ℕ). bytesOf 2 enabled ++ take 30 (drop 2 z) ++ part given 32 24 ++ drop (32 + n) z) whole
+
+abbrev zeros : ℕ → List ℕ
+zeros n = replicate n 0
+
+drop-zeros : (n m : ℕ) → drop n (zeros (n + m)) ≡ zeros m
+drop-zeros zero m = ap zeros (zero-add m)
+drop-zeros (suc n) m = let e : suc n + m ≡ suc (n + m) = omega arith in rw e (drop-zeros n m)
+
+take-zeros : (n m : ℕ) → take n (zeros (n + m)) ≡ zeros n
+take-zeros zero m = refl
+take-zeros (suc n) m = let e : suc n + m ≡ suc (n + m) = omega arith in rw (e, take-zeros n m)
+
+pub data-back : DataBack
+unfolding configPage handedBack
+data-back given each room =
+    let between : take 30 (drop 2 (zeros featureSize)) ≡ zeros 30 = ap (take 30) (drop-zeros 2 510) ∙ take-zeros 30 480 in
+    sym (placed featureSize (configFields (configIn given)))
+    ∙ put-config (zeros featureSize) given (bitsOf (configIn given .enabled)) (length-replicate {A = ℕ} featureSize 0) each room
+    ∙ ap (λ (l : List ℕ). bytesOf 2 (bitsOf (configIn given .enabled)) ++ l ++ part given 32 24 ++ drop 56 (zeros featureSize)) between
+    ∙ ap (λ (l : List ℕ). bytesOf 2 (bitsOf (configIn given .enabled)) ++ zeros 30 ++ part given 32 24 ++ l) (drop-zeros 56 456)
+    ∙ ap (λ (n : ℕ). bytesOf 2 n ++ zeros 30 ++ part given 32 24 ++ zeros 456) (masked (readAt given 0 configEnabled))
 
 -- ---- log page 0Ah
 

@@ -17,7 +17,7 @@ use Rattle.octets.specs.Pages.{puts, tidy, Fit, readings, values}
 use Rattle.octets.proofs.Pages.{placed, read-back}
 use Rattle.record.specs.Event.{bit}
 use Rattle.table.specs.Table.{maxSets, wordOf}
-use Rattle.pages.specs.Aggregate.{listedIf, picked, listedBy, aggregateSize, listedSize, entriesFrom, listFields, aggregatePage}
+use Rattle.pages.specs.Aggregate.{listedIf, picked, listedBy, OneWord, CountIsOnes, NextIsLowest, aggregateSize, listedSize, entriesFrom, listFields, aggregatePage}
 
 -- a word without its lowest one
 unfoldable cleared : ℕ → ℕ
@@ -83,6 +83,10 @@ lowest (id ∷ ids) (suc d) w p h l = ⊎-elim
     rw (zeros-odd d w e, by-odd w id ids e, by-even (cleared w) (w / 2) id ids (omega arith) (omega arith)) (omega arith, refl))
     (odd-or-even w)
 
+pub next-is-lowest : NextIsLowest
+unfolding cleared
+next-is-lowest ids w p h few = lowest ids 64 w p h (omega arith) .1
+
 -- none is left in an empty word
 listed-none : (ids : List ℕ) → listedBy 0 ids ≡ []
 listed-none [] = refl
@@ -101,6 +105,9 @@ ones-listed (id ∷ ids) w h =
     ones-step w ∙ ap (λ (n : ℕ). w % 2 + n) (ones-listed ids (w / 2) (half-below (length ids) w h))
     ∙ sym (listed-if w id (listedBy (w / 2) ids))
 
+pub count-is-ones : CountIsOnes
+count-is-ones ids w h = sym (ones-listed ids w h)
+
 pub listed-few : (ids : List ℕ) (w : ℕ) → length (listedBy w ids) ≤ length ids
 listed-few [] w = omega arith
 listed-few (id ∷ ids) w = omega (arith, listed-if w id (listedBy (w / 2) ids), listed-few ids (w / 2))
@@ -116,13 +123,13 @@ word-below [] = omega arith
 word-below (m ∷ marks) = rw pow-suc (omega (arith, word-below marks, bit-is m .0))
 
 -- the word of marks lists the sets whose mark is set
-pub listed-marks : (ids : List ℕ) (marks : List Bool) → length marks ≡ length ids → listedBy (wordOf marks) ids ≡ picked ids marks
-listed-marks [] marks e = refl
-listed-marks (id ∷ ids) [] e = absurd (omega arith)
-listed-marks (id ∷ ids) (m ∷ marks) e =
+pub one-word : OneWord
+one-word [] marks e = refl
+one-word (id ∷ ids) [] e = absurd (omega arith)
+one-word (id ∷ ids) (m ∷ marks) e =
     let a : (wordOf marks * 2 + bit m) % 2 ≡ bit m = omega (arith, bit-is m .0) in
     let b : (wordOf marks * 2 + bit m) / 2 ≡ wordOf marks = omega (arith, bit-is m .0) in
-    rw (a, b, bit-is m .1, listed-marks ids marks (omega arith))
+    rw (a, b, bit-is m .1, one-word ids marks (omega arith))
 
 -- ---- an entry: two bytes of a number are those of its lowest 16 bits
 

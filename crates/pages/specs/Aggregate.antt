@@ -1,12 +1,16 @@
 -- 01, "Commands": log page 0Bh.
+use mathlib.Core.Path.{_≡_}
 use mathlib.Core.Bool.{Bool}
 use mathlib.Core.List.{List, [], _∷_, _++_}
-use Prim.Native.Nat.{ℕ, _+_, _/_, _%_}
+use Prim.Native.Nat.{ℕ, _+_, _-_, _/_, _%_, _^_, _<_, _≤_}
+use lib.Bits.{bitAnd}
+use lib.Count.{ones, trailingZeros}
 use lib.Dec.{eqb}
-use lib.ListN.{length}
+use lib.ListN.{length, getD}
 use Rattle.octets.specs.Choice.{if_then_else_}
 use Rattle.octets.specs.declared.Place.{Place}
 use Rattle.octets.specs.Pages.{Field, field, span, fieldsAt, place}
+use Rattle.table.specs.Table.{maxSets, wordOf}
 
 -- ---- the listed sets
 
@@ -24,6 +28,33 @@ picked (id ∷ ids) (mark ∷ marks) = listedIf mark id (picked ids marks)
 abbrev pub listedBy : ℕ → List ℕ → List ℕ
 listedBy word [] = []
 listedBy word (id ∷ ids) = listedIf (eqb (word % 2) 1) id (listedBy (word / 2) ids)
+
+-- ---- "The listed marks of all sets are gathered as one word of bits; the count is its ones and the next entry its lowest one."
+-- Each is proved under its name, in lower case and with dashes, in proofs/Listed.antt.
+
+-- the word of the marks lists the sets whose mark is set
+abbrev pub OneWord : Type 0
+OneWord = (ids : List ℕ) (marks : List Bool) → length marks ≡ length ids → listedBy (wordOf marks) ids ≡ picked ids marks
+
+-- "the count is its ones"
+abbrev pub CountIsOnes : Type 0
+CountIsOnes = (ids : List ℕ) (word : ℕ) → word < 2 ^ length ids → length (listedBy word ids) ≡ ones word
+
+-- the lowest one of a word of 64 bits, by its place; and the word without it
+abbrev pub wordBits : ℕ
+wordBits = 64
+
+abbrev pub lowestOne : ℕ → ℕ
+lowestOne word = trailingZeros wordBits word
+
+abbrev pub withoutLowest : ℕ → ℕ
+withoutLowest word = bitAnd word (word - 1)
+
+-- "and the next entry its lowest one": the identifier in that slot comes next, and then what the word without it lists
+abbrev pub NextIsLowest : Type 0
+NextIsLowest =
+    (ids : List ℕ) (word : ℕ) → 0 < word → word < 2 ^ length ids → length ids ≤ maxSets
+    → listedBy word ids ≡ getD ids (lowestOne word) 0 ∷ listedBy (withoutLowest word) ids
 
 -- ---- the page
 

@@ -1,7 +1,11 @@
 -- 01, "Commands": the data of feature 13h.
-use mathlib.Core.List.{List, [], _∷_}
-use Prim.Native.Nat.{ℕ, _^_, _<_}
+use mathlib.Core.Path.{_≡_}
+use mathlib.Core.List.{List, [], _∷_, _++_}
+use Prim.Native.Nat.{ℕ, _+_, _-_, _^_, _≤_, _<_}
+use lib.Bits.{bitAnd}
+use lib.ListN.{length, replicate}
 use Rattle.octets.specs.declared.Place.{Place}
+use Rattle.octets.specs.Octets.{bytesOf, part, AllBytes}
 use Rattle.octets.specs.Pages.{Field, span, fieldsAt, readAt, place}
 use Rattle.record.specs.declared.Thresholds.{Thresholds}
 use Rattle.record.specs.declared.Config.{Config}
@@ -44,6 +48,28 @@ configPage c = place featureSize (configFields c)
 abbrev pub configIn : List ℕ → Config
 configIn bytes =
     configOf (eventsIn (readAt bytes 0 configEnabled)) (readAt bytes 0 configReads) (readAt bytes 0 configWrites) (readAt bytes 0 configTime)
+
+-- ---- from the data in of Set Features to the data out of Get Features, byte by byte
+
+-- "ENEV (masked with C007h)"
+abbrev pub enevMask : ℕ
+enevMask = 0xC007
+
+-- the three thresholds together: bytes 55:32
+abbrev pub configThresholds : Place
+configThresholds = span 32 24
+
+-- ENEV's two bytes masked, the bytes of the thresholds as they went in, and "the rest zero when returned"
+unfoldable pub handedBack : List ℕ → List ℕ
+handedBack given =
+    bytesOf (configEnabled .width) (bitAnd (readAt given 0 configEnabled) enevMask)
+    ++ replicate (configThresholds .at - configEnabled .width) 0
+    ++ part given (configThresholds .at) (configThresholds .width)
+    ++ replicate (featureSize - (configThresholds .at + configThresholds .width)) 0
+
+-- that this is the page of what the data says; proved as `data-back` in proofs/Back.antt
+abbrev pub DataBack : Type 0
+DataBack = (given : List ℕ) → AllBytes given → featureSize ≤ length given → configPage (configIn given) ≡ handedBack given
 
 -- "three 64-bit thresholds": those of every record that code holds
 pub record Words (t : Thresholds) : Type 0 where

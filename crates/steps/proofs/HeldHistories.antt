@@ -241,13 +241,13 @@ module _ (H : Holder) (S : Steps H) where
     done-last = told-status d _ back-last ∙ zj
 
   pub config-handed : ConfigBack H
-  config-handed h c cs d bytes given room bytes′ given′ room′ e u p mi ki zi n mj kj q zj =
+  config-handed h c cs d bytes given room bytes′ given′ room′ e u p mi each ki zi n mj kj q zj =
       let i = command bytes given room in
       let j = command bytes′ given′ room′ in
       let none = subst (λ (x : Card). noneConfigures x (featureSet (commandIn bytes)) (items H cs) ≡ true) (after-first h c cs d i j e u p mi mj zi zj) (none-configures (featureSet (commandIn bytes)) (c .held) cs (legal-next h c cs e u) (u .1) n) in
       back-last h c cs d i j e u p mi mj zi zj
       ∙ ap (H .shows (d .lent))
-      (config-stored (cardOf (H .words h)) bytes given room (items H cs) bytes′ given′ room′ ki (done-first h c cs d i j e u p mi mj zi zj) none kj q (done-last h c cs d i j e u p mi mj zi zj))
+      (config-stored (cardOf (H .words h)) bytes given room (items H cs) bytes′ given′ room′ each ki (done-first h c cs d i j e u p mi mj zi zj) none kj q (done-last h c cs d i j e u p mi mj zi zj))
 
   pub window-handed : WindowBack H
   window-handed h c cs d bytes given room bytes′ given′ room′ e u p mi ki zi n mj kj q zj =

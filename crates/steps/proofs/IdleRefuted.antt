@@ -1,8 +1,9 @@
 -- The five idle builds of specs/IdleBuilds.antt, each refuted by what is computed or proved of the step itself.
-use mathlib.Core.Path.{_≡_, refl, ap, _∙_}
+use mathlib.Core.Path.{_≡_, refl, sym, ap, subst, _∙_}
 use mathlib.Core.Bool.{Bool, true, false}
 use mathlib.Core.List.{List, [], _∷_, map}
-use Prim.Native.Nat.{ℕ, zero, suc, _+_, _*_, _≤_, _<_, _^_}
+use Prim.Native.Nat.{ℕ, zero, suc, _+_, _*_, _-_, _≤_, _<_, _^_}
+use native.Mathlib.Nat.{zero-add, add-zero}
 use native.Mathlib.Omega.{arith}
 use borrow.Author.Tests.{leb-true}
 use lib.Dec.{leb}
@@ -17,18 +18,18 @@ use Rattle.record.specs.declared.Record.{Record}
 use Rattle.record.specs.declared.Attributes.{Attributes}
 use Rattle.record.specs.Parts.{idOf}
 use Rattle.record.specs.Legal.{numberMaximum, legalAttributes}
-use Rattle.table.specs.Table.{legalSets, maxSets}
+use Rattle.table.specs.Table.{legalSets, maxSets, listedMarks, listedWord}
 use Rattle.replies.specs.Answers.{Answer}
-use Rattle.pages.specs.Aggregate.{aggregateSize, listFields, aggregatePage}
-use Rattle.pages.proofs.Listed.{aggregate-back}
+use Rattle.pages.specs.Aggregate.{listedBy, aggregateSize, listFields, aggregatePage}
+use Rattle.pages.proofs.Listed.{word-below, one-word, count-is-ones, next-is-lowest, aggregate-back}
 use Rattle.commands.specs.Commands.{dwordSize, commandIn, dwords}
-use Rattle.steps.specs.Items.{reads}
+use Rattle.steps.specs.Items.{Card, reads, command}
 use Rattle.steps.specs.Meanings.{meaning}
 use Rattle.steps.specs.Card.{refusalOf, effectOn, concerns, touched, answer}
 use Rattle.steps.specs.Edges.{inD}
-use Rattle.steps.specs.IdleBuilds.{NotRefusingAll, NotAlike, NotStill, NotFirstOnly, MarksCounted}
+use Rattle.steps.specs.IdleBuilds.{NotRefusingAll, NotAlike, NotStill, NotFirstOnly, ListRead, MarksCounted, OnesCounted, LowestFirst}
 use Rattle.steps.proofs.Slots.{ordered}
-use Rattle.steps.proofs.OwnHistory.{listed}
+use Rattle.steps.proofs.OwnHistory.{listed, picked-ids}
 use Rattle.steps.proofs.AggregateLog.{aggregate-log}
 
 -- the reads of the first set
@@ -99,14 +100,74 @@ keep-fit p q (r ∷ rs) h =
     let o = ordered q r rs h in
     fits-by (p r) r (keep p rs) (id-fits (r .attributes) (and-left _ _ (and-left _ _ (o .legal)))) (keep-fit p (idOf r) rs (o .rest))
 
+-- ---- what a read of the page hands out
+
+drop-padded : (l : List ℕ) (at k n : ℕ) → drop k (padded l at (k + n)) ≡ padded l (at + k) n
+drop-padded l at zero n = ap (λ (m : ℕ). padded l at m) (zero-add n) ∙ ap (λ (a : ℕ). padded l a n) (sym (add-zero at))
+drop-padded l at (suc k) n =
+    let e : suc k + n ≡ suc (k + n) = omega arith in
+    let f : suc at + k ≡ at + suc k = omega arith in
+    rw e (drop-padded l (suc at) k n ∙ rw f)
+
+-- its identifiers, by the marks
+abbrev markedIds : Card → List ℕ
+markedIds c = map idOf (keep (λ r. r .notes .listed) (c .sets))
+
+module _ (c : Card) (bytes given : List ℕ) (room least : ℕ) (h : ListRead c bytes given room least) where
+  -- a part that lies within what is read is that of the page
+  read-part : (at k : ℕ) → at + k ≤ least * dwordSize → at + k ≤ aggregateSize
+      → part (answer c (command bytes given room) .bytes) at k ≡ part (aggregatePage (markedIds c)) at k
+  read-part at k few within =
+      let n : ℕ = dwords (commandIn bytes) * dwordSize in
+      let log = aggregate-log c [] bytes given room (h .kind) (h .carried) in
+      let same : answer c (command bytes given room) .bytes ≡ padded (aggregatePage (markedIds c)) 0 n
+      = ap (λ (a : Answer). a .bytes) log ∙ rw (h .start, listed c []) in
+      let split : at + (n - at) ≡ n = omega (arith, h .long) in
+      ap (λ (l : List ℕ). part l at k) (same ∙ ap (padded (aggregatePage (markedIds c)) 0) (sym split))
+      ∙ ap (take k) (drop-padded (aggregatePage (markedIds c)) 0 at (n - at) ∙ ap (λ (a : ℕ). padded (aggregatePage (markedIds c)) a (n - at)) (zero-add at))
+      ∙ take-padded (aggregatePage (markedIds c)) at k (n - at) (omega (arith, h .long)) (omega (arith, page-long (markedIds c)))
+
+  ids-few : length (markedIds c) ≤ maxSets
+  ids-few = omega (arith, h .few, length-map (keep (λ r. r .notes .listed) (c .sets)) idOf, keep-few (λ r. r .notes .listed) (c .sets))
+
+  ids-fit : (i : ℕ) → getD (markedIds c) i 0 < 2 ^ 16
+  ids-fit = keep-fit _ 0 (c .sets) (h .legal)
+
 pub marks-counted : MarksCounted
-marks-counted c bytes given room legal few kind start long carried =
-    let marked : List Record = keep (λ r. r .notes .listed) (c .sets) in
-    let ids : List ℕ = map idOf marked in
-    let n : ℕ = dwords (commandIn bytes) * dwordSize in
-    let log = aggregate-log c [] bytes given room kind carried in
-    let same : answer c _ .bytes ≡ padded (aggregatePage ids) 0 n = ap (λ (a : Answer). a .bytes) log ∙ rw (start, listed c []) in
-    ap (λ (l : List ℕ). numberOf (take 8 l)) same
-    ∙ ap numberOf (take-padded (aggregatePage ids) 0 8 n (omega arith) (omega (arith, page-long ids)))
-    ∙ entries-counted ids (omega (arith, length-map marked idOf, keep-few (λ r. r .notes .listed) (c .sets))) (keep-fit _ 0 (c .sets) legal)
-    ∙ length-map marked idOf
+marks-counted c bytes given room h =
+    ap numberOf (read-part c bytes given room 2 h 0 8 (omega arith) (omega arith))
+    ∙ entries-counted (markedIds c) (ids-few c bytes given room 2 h) (ids-fit c bytes given room 2 h)
+    ∙ length-map (keep (λ r. r .notes .listed) (c .sets)) idOf
+
+-- the same identifiers by the word
+module _ (c : Card) where
+  word-fits : listedWord (c .sets) < 2 ^ length (map idOf (c .sets))
+  word-fits =
+      let e : length (listedMarks (c .sets)) ≡ length (map idOf (c .sets)) = simp length-map in
+      subst (λ (n : ℕ). listedWord (c .sets) < 2 ^ n) e (word-below (listedMarks (c .sets)))
+
+  by-word : markedIds c ≡ listedBy (listedWord (c .sets)) (map idOf (c .sets))
+  by-word =
+      listed c [] ∙ sym (picked-ids c []) ∙ sym (one-word (map idOf (c .sets)) (listedMarks (c .sets)) (simp length-map))
+
+pub ones-counted : OnesCounted
+ones-counted c bytes given room h =
+    marks-counted c bytes given room h
+    ∙ sym (length-map (keep (λ r. r .notes .listed) (c .sets)) idOf)
+    ∙ ap length (by-word c)
+    ∙ count-is-ones (map idOf (c .sets)) (listedWord (c .sets)) (word-fits c)
+
+-- the first entry of a page that lists one
+entry-first : (ids : List ℕ) (id : ℕ) (rest : List ℕ) → ids ≡ id ∷ rest → length ids ≤ maxSets → ((i : ℕ) → getD ids i 0 < 2 ^ 16)
+    → numberOf (part (aggregatePage ids) 8 2) ≡ id
+entry-first ids id rest e few fit =
+    ap (λ (l : List ℕ). numberOf (part (aggregatePage l) 8 2)) e
+    ∙ ap (λ (l : List ℕ). getD l 1 0)
+    (aggregate-back (id ∷ rest) (subst (λ (l : List ℕ). length l ≤ maxSets) e few) (subst (λ (l : List ℕ). (i : ℕ) → getD l i 0 < 2 ^ 16) e fit))
+
+pub lowest-first : LowestFirst
+lowest-first c bytes given room h some =
+    let few : length (map idOf (c .sets)) ≤ maxSets = omega (arith, h .few, length-map (c .sets) idOf) in
+    ap numberOf (read-part c bytes given room 3 h 8 2 (omega arith) (omega arith))
+    ∙ entry-first (markedIds c) _ _ (by-word c ∙ next-is-lowest (map idOf (c .sets)) (listedWord (c .sets)) some (word-fits c) few)
+    (ids-few c bytes given room 3 h) (ids-fit c bytes given room 3 h)

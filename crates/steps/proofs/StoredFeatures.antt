@@ -4,10 +4,10 @@ use mathlib.Core.Bool.{Bool, true, false, not, _&&_, _||_, false≢true}
 use mathlib.Core.List.{List, [], _∷_}
 use mathlib.Core.Option.{Option, none, some}
 use mathlib.Core.Logic.{⊎-elim}
-use Prim.Native.Nat.{ℕ, _+_}
+use Prim.Native.Nat.{ℕ, _+_, _≤_}
 use native.Mathlib.Omega.{arith}
-use borrow.Author.Tests.{eqb-true, eq-eqb}
-use lib.Dec.{eqb}
+use borrow.Author.Tests.{eqb-true, eq-eqb, ltb-false}
+use lib.Dec.{eqb, ltb}
 use lib.ListN.{length}
 use Rattle.octets.specs.Choice.{if_then_else_}
 use Rattle.octets.proofs.JoinedTests.{both, left-false, right-false, second-false}
@@ -31,14 +31,15 @@ use Rattle.rules.specs.Door.{going}
 use Rattle.rules.specs.Rules as rules
 use Rattle.rules.proofs.Leads.{leads}
 use Rattle.rules.proofs.Staying.{door-stays}
-use Rattle.pages.specs.Features.{configIn}
+use Rattle.pages.specs.Features.{featureSize, configIn, configPage, handedBack}
+use Rattle.pages.proofs.Back.{data-back}
 use Rattle.octets.specs.Lists.{first}
 use Rattle.commands.specs.declared.Command.{Command}
 use Rattle.commands.specs.declared.Kind.{Kind}
 use Rattle.commands.specs.declared.Kind.the-variants.{SetConfig, SetWindow, GetConfig, GetWindow, ReadLatency, ReadAggregate, Identify}
 use Rattle.steps.specs.Items.{Card, Item, reads, writes, excursion, tick, command, One, Meaning, Nobody, Everybody, The}
 use Rattle.commands.specs.Commands.{featureSet, enable, windowValue, causeBy, windowCause, retain, commandIn}
-use Rattle.commands.specs.Shapes.{kindOf}
+use Rattle.commands.specs.Shapes.{kindOf, needsOut}
 use Rattle.commands.specs.StatusTable.{isOff, noWindow, lateLines}
 use Rattle.steps.specs.Commanded.{modeNo, named, meaningBy, commandMeaning}
 use Rattle.steps.specs.Meanings.{meaning}
@@ -261,8 +262,16 @@ module _ (i : Item) (id : ℕ) (o : One) (m : meaning i ≡ The id o) (c : Card)
     left-there : first (has id) (after c i .sets) ≡ some (touched (length (c .sets)) i r)
     left-there = first-map (touched (length (c .sets)) i) (has id) (has-same (length (c .sets)) id i) (c .sets) ∙ rw f
 
+-- "data in .. shorter than needed": a Set Features 13h that passes has all its data
+whole-data :
+    (c : Command) (given : List ℕ) (room : ℕ) (a : Attributes) (s : State) → refusalAt (named SetConfig c given room) a s ≡ 0 → featureSize ≤ length given
+whole-data c given room a s h =
+    let p = early-passed c (lateLines SetConfig c (length given) room a s) refl h in
+    let o = late-passed SetConfig c (length given) room a s (p .later) .short in
+    ltb-false (length given) featureSize (left-false (ltb (length given) featureSize) (ltb room (needsOut SetConfig c)) o)
+
 pub config-stored : ConfigStored
-config-stored c bytes given room is bytes′ given′ room′ k a h k′ q a′ =
+config-stored c bytes given room is bytes′ given′ room′ each k a h k′ q a′ =
     let z = sym (answers c (command bytes given room)) ∙ a in
     let z′ = sym (answers (run c (command bytes given room ∷ is)) (command bytes′ given′ room′)) ∙ a′ in
     let C = commandIn bytes in
@@ -280,7 +289,8 @@ config-stored c bytes given room is bytes′ given′ room′ k a h k′ q a′ 
     let mode : modeNo (l .found .state) ≡ bit (enable C)
     = l .kept .mode ∙ ap modeNo s ∙ ap modeIn (leads (rules.causeOfMode (enable C)) (r .attributes) (r .state)) ∙ set-mode (enable C) (r .state .window) in
     let config : l .found .state .config ≡ configIn given = l .kept .config ∙ ap (λ (y : State). y .config) s in
-    d ∙ rw (mode, config)
+    let back : configPage (configIn given) ≡ handedBack given = data-back given each (whole-data C given room (r .attributes) (r .state) (x .passes)) in
+    d ∙ rw (mode, config, back)
 
 -- ---- 14h: the window, as long as nothing moves it
 

@@ -13,7 +13,7 @@ use Prim.Native.Nat.{ℕ, _*_, _<_}
 use lib.Dec.{eqb}
 use lib.ListN.{length}
 use Rattle.octets.specs.Choice.{if_then_else_}
-use Rattle.octets.specs.Octets.{padded}
+use Rattle.octets.specs.Octets.{AllBytes, padded}
 use Rattle.octets.specs.Words.{AllWords}
 use Rattle.record.specs.declared.Attributes.{Attributes}
 use Rattle.record.specs.declared.State.{State}
@@ -25,7 +25,7 @@ use Rattle.replies.specs.Numbers.{success, badTable}
 use Rattle.replies.specs.declared.Reply.{Reply}
 use Rattle.replies.specs.Answers.{Answer, granted, refused, refusing}
 use Rattle.table.specs.Table.{legalSets, legalTable, written, listedMarks, recordsOf}
-use Rattle.pages.specs.Features.{configIn, configPage}
+use Rattle.pages.specs.Features.{handedBack}
 use Rattle.pages.specs.Aggregate.{picked, aggregatePage}
 use Rattle.octets.specs.Lists.{nth, first, keep, beside, join}
 use Rattle.steps.specs.Items.{Card, Item, reads, writes, excursion, tick, command, GivenBytes, itemOf, All, View, Meaning, Nobody, Everybody, The}
@@ -290,17 +290,17 @@ noneConfigures c id [] = true
 noneConfigures c id (i ∷ is) = not (configures id i && eqb (refusalOf c i) 0) && noneConfigures (step c i .card) id is
 
 -- "Get returns enable with the 512 bytes": those of the last Set Features 13h of the set that was carried out, whatever other items
--- came between, refused ones too.
--- That the page says what was stored is `config-back` of pages/proofs/Back.antt.
+-- came between, refused ones too. From data in to data out, byte by byte (`handedBack` of crates/pages/specs/Features.antt): the
+-- thresholds' bytes as they went in, ENEV's masked, the rest zero.
 abbrev pub ConfigStored : Type 0
 ConfigStored =
     (c : Card) (bytes given : List ℕ) (room : ℕ) (items : List Item) (bytes′ given′ : List ℕ) (room′ : ℕ)
-    → kindOf (commandIn bytes) ≡ SetConfig → answer c (command bytes given room) .status ≡ success
+    → AllBytes given → kindOf (commandIn bytes) ≡ SetConfig → answer c (command bytes given room) .status ≡ success
     → noneConfigures (step c (command bytes given room) .card) (featureSet (commandIn bytes)) items ≡ true
     → kindOf (commandIn bytes′) ≡ GetConfig → featureSet (commandIn bytes′) ≡ featureSet (commandIn bytes)
     → answer (run c (command bytes given room ∷ items)) (command bytes′ given′ room′) .status ≡ success
     → answer (run c (command bytes given room ∷ items)) (command bytes′ given′ room′)
-    ≡ granted (bit (enable (commandIn bytes))) (configPage (configIn given))
+    ≡ granted (bit (enable (commandIn bytes))) (handedBack given)
 
 -- ---- 14h
 

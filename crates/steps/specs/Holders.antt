@@ -8,7 +8,7 @@ use Prim.Native.Nat.{ℕ, _*_}
 use lib.Dec.{eqb}
 use lib.ListN.{length}
 use lib.Seq.{sets}
-use Rattle.octets.specs.Octets.{padded}
+use Rattle.octets.specs.Octets.{AllBytes, padded}
 use Rattle.octets.specs.Lists.{nth, keep, beside}
 use Rattle.record.specs.declared.Record.{Record}
 use Rattle.record.specs.Parts.{idOf}
@@ -16,7 +16,7 @@ use Rattle.record.specs.Event.{bit}
 use Rattle.replies.specs.declared.Reply.{Reply}
 use Rattle.replies.specs.Answers.{Answer, granted}
 use Rattle.table.specs.Table.{recordsOf, legalTable, listedMarks}
-use Rattle.pages.specs.Features.{configIn, configPage}
+use Rattle.pages.specs.Features.{handedBack}
 use Rattle.pages.specs.Aggregate.{aggregatePage}
 use Rattle.commands.specs.declared.Kind.the-variants.{SetConfig, SetWindow, GetConfig, GetWindow, ReadAggregate}
 use Rattle.commands.specs.Commands.{dwordSize, commandIn, featureSet, enable, windowValue, offset, dwords}
@@ -149,16 +149,17 @@ noneMoved H id h [] = true
 noneMoved H id h (c ∷ cs) = eqb (windowOf (cardOf (H .words (c .held))) id) (windowOf (cardOf (H .words h)) id) && noneMoved H id (c .held) cs
 
 module _ (H : Holder) where
-  -- a Set Features 13h that succeeds, calls of which no other 13h of that set is carried out, and a Get Features 13h that succeeds
+  -- a Set Features 13h that succeeds, calls of which no other 13h of that set is carried out, and a Get Features 13h that succeeds:
+  -- the data that went in comes back, the thresholds' bytes as they were, ENEV's masked, the rest zero
   abbrev pub ConfigBack : Type 0
   ConfigBack =
       (h : H .Held) (c : Called H) (cs : List (Called H)) (d : Called H) (bytes given : List ℕ) (room : ℕ) (bytes′ given′ : List ℕ) (room′ : ℕ)
       → legalTable (H .words h) ≡ true → History H h (c ∷ cs) → H .Call (last H h (c ∷ cs)) (d .lent) (d .back) (d .held)
-      → H .item (c .lent) ≡ command bytes given room → kindOf (commandIn bytes) ≡ SetConfig → H .status (c .back) ≡ 0
+      → H .item (c .lent) ≡ command bytes given room → AllBytes given → kindOf (commandIn bytes) ≡ SetConfig → H .status (c .back) ≡ 0
       → noneDone H (configures (featureSet (commandIn bytes))) cs ≡ true
       → H .item (d .lent) ≡ command bytes′ given′ room′ → kindOf (commandIn bytes′) ≡ GetConfig
       → featureSet (commandIn bytes′) ≡ featureSet (commandIn bytes) → H .status (d .back) ≡ 0
-      → d .back ≡ H .shows (d .lent) (granted (bit (enable (commandIn bytes))) (configPage (configIn given)))
+      → d .back ≡ H .shows (d .lent) (granted (bit (enable (commandIn bytes))) (handedBack given))
 
   -- the same of 14h, where nothing moves the set's window in between
   abbrev pub WindowBack : Type 0

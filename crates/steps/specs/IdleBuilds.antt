@@ -2,13 +2,16 @@
 -- Each is proved under its name, in lower case and with dashes, in proofs/IdleRefuted.antt.
 use mathlib.Core.Path.{_≡_}
 use mathlib.Core.Bool.{true}
-use mathlib.Core.List.{List, _∷_}
-use Prim.Native.Nat.{ℕ, _≤_}
-use lib.ListN.{length}
+use mathlib.Core.List.{List, _∷_, map}
+use Prim.Native.Nat.{ℕ, _≤_, _<_}
+use lib.Count.{ones}
+use lib.ListN.{length, getD}
 use Rattle.octets.specs.Octets.{numberOf, part}
 use Rattle.octets.specs.Lists.{keep}
 use Rattle.replies.specs.Numbers.{success}
-use Rattle.table.specs.Table.{legalSets, maxSets}
+use Rattle.record.specs.Parts.{idOf}
+use Rattle.table.specs.Table.{legalSets, maxSets, listedWord}
+use Rattle.pages.specs.Aggregate.{listCount, firstListed, listedSize, lowestOne}
 use Rattle.commands.specs.declared.Kind.the-variants.{ReadAggregate}
 use Rattle.commands.specs.Commands.{commandIn, offset, dwords}
 use Rattle.commands.specs.Shapes.{kindOf}
@@ -43,11 +46,38 @@ FirstOnly = (c : Card) (i : Item) (is : List Item) → run c (i ∷ is) .sets �
 abbrev pub NotFirstOnly : Type 0
 NotFirstOnly = FirstOnly → ⊥
 
--- "One that invents the number of entries breaks 0Bh, where it equals the marks set": "7:0 number of entries" of every read of
--- page 0Bh that is carried out and has these eight bytes, from a legal card
+-- ---- "One that invents the number of entries breaks 0Bh, where it equals the marks set."
+
+-- a read of page 0Bh from its start, of so many dwords at least, that is carried out on a legal card
+pub record ListRead (c : Card) (bytes given : List ℕ) (room least : ℕ) : Type 0 where
+  pub legal : legalSets 0 (c .sets) ≡ true
+  pub few : length (c .sets) ≤ maxSets
+  pub kind : kindOf (commandIn bytes) ≡ ReadAggregate
+  pub start : offset (commandIn bytes) ≡ 0
+  pub long : least ≤ dwords (commandIn bytes)
+  pub carried : refusalOf c (command bytes given room) ≡ 0
+
+-- "7:0 number of entries, then two bytes each", of what such a read hands out
+abbrev pub entriesRead : Card → Item → ℕ
+entriesRead c i = numberOf (part (answer c i .bytes) (listCount .at) (listCount .width))
+
+abbrev pub firstRead : Card → Item → ℕ
+firstRead c i = numberOf (part (answer c i .bytes) firstListed listedSize)
+
 abbrev pub MarksCounted : Type 0
 MarksCounted =
-    (c : Card) (bytes given : List ℕ) (room : ℕ) → legalSets 0 (c .sets) ≡ true → length (c .sets) ≤ maxSets
-    → kindOf (commandIn bytes) ≡ ReadAggregate → offset (commandIn bytes) ≡ 0 → 2 ≤ dwords (commandIn bytes)
-    → refusalOf c (command bytes given room) ≡ 0
-    → numberOf (part (answer c (command bytes given room) .bytes) 0 8) ≡ length (keep (λ r. r .notes .listed) (c .sets))
+    (c : Card) (bytes given : List ℕ) (room : ℕ) → ListRead c bytes given room 2
+    → entriesRead c (command bytes given room) ≡ length (keep (λ r. r .notes .listed) (c .sets))
+
+-- "The listed marks of all sets are gathered as one word of bits; the count is its ones": of the marks that the card holds
+abbrev pub OnesCounted : Type 0
+OnesCounted =
+    (c : Card) (bytes given : List ℕ) (room : ℕ) → ListRead c bytes given room 2
+    → entriesRead c (command bytes given room) ≡ ones (listedWord (c .sets))
+
+-- "and the next entry its lowest one": the first is the identifier in that slot. (The entries after it go by `NextIsLowest` of
+-- crates/pages/specs/Aggregate.antt.)
+abbrev pub LowestFirst : Type 0
+LowestFirst =
+    (c : Card) (bytes given : List ℕ) (room : ℕ) → ListRead c bytes given room 3 → 0 < listedWord (c .sets)
+    → firstRead c (command bytes given room) ≡ getD (map idOf (c .sets)) (lowestOne (listedWord (c .sets))) 0
