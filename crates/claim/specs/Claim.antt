@@ -1,0 +1,119 @@
+-- The claim: this record is everything that is proved about the whole, beside what each function ensures; one proof of it is checked
+-- by the gate (`claim` of proofs/Claim.antt, which only cites the proofs under their names).
+-- Each field is a statement of the file that it names. A new statement in any specs file is a new field here: tests/promises asks
+-- for it.
+use Rattle.rules.specs.Changes as changes
+use Rattle.rules.specs.Door as door
+use Rattle.rules.specs.Rules as rules
+use Rattle.table.specs.LegalWords as legal
+use Rattle.pages.specs.Features as features
+use Rattle.pages.specs.Aggregate as listing
+use Rattle.steps.specs.Order as rows
+use Rattle.steps.specs.Edges as twelve
+use Rattle.steps.specs.PastTheTable as past
+use Rattle.steps.specs.Firm as firm
+use Rattle.steps.specs.IdleBuilds as idle
+use Rattle.steps.specs.Demands as demands
+use Rattle.steps.specs.Holders as holders
+use Rattle.card_c.specs.Demands as at-c
+use Rattle.card_c.specs.HeldByC as held-by-c
+use Rattle.by_reference.specs.Lists as lists
+use Rattle.by_reference.specs.Records as records
+use Rattle.tape.specs.Firm as tape
+
+pub record Claim : Type 0 where
+  -- ==== demand 1: every input ends "with success or with the one refusal that document 01 names for that input"
+  -- on the lent words, and on the card that they hold
+  pub exactly : demands.Exactly
+  pub exactly-events : demands.ExactlyEvents
+  pub exactly-ticks : demands.ExactlyTicks
+  pub carried-out : demands.CarriedOut
+  pub refused : demands.Refused
+  pub refused-words : demands.RefusedWords
+  pub refused-buffer : demands.RefusedBuffer
+  pub refused-handed : demands.RefusedHanded
+  -- of set-up, which is no item
+  pub set-up-exactly : demands.SetUpExactly
+  pub set-up-refused : demands.SetUpRefused
+  pub set-up-legal : demands.SetUpLegal
+  -- 01's rows are "checked in this order"
+  pub order : rows.Order
+  -- what is legal, word by word
+  pub legal-words : legal.LegalWords
+  -- ==== demand 2: what each item does
+  -- the table of window changes, and the door between windows
+  pub off-refuses : changes.OffRefuses
+  pub leads : door.Leads
+  pub starts-anew : door.StartsAnew
+  pub held-stays : door.HeldStays
+  pub carries-none : rules.CarriesNone
+  -- "What Set Features stores, Get Features hands back."
+  pub data-back : features.DataBack
+  pub config-stored : demands.ConfigStored
+  pub window-stored : demands.WindowStored
+  -- page 0Bh: "the count is its ones and the next entry its lowest one"
+  pub one-word : listing.OneWord
+  pub count-is-ones : listing.CountIsOnes
+  pub next-is-lowest : listing.NextIsLowest
+  -- "Edges to show"
+  pub edges : twelve.Edges
+  -- ==== demand 3: each set by itself, on the card
+  -- its record, and the answers to the items that name it
+  pub named-items : demands.NamedItems
+  pub own-record : demands.OwnRecord
+  pub by-rules : demands.ByRules
+  pub own-answers : demands.OwnAnswers
+  pub joined : demands.Joined
+  -- the aggregate log
+  pub listed : demands.Listed
+  pub picked-ids : demands.PickedIds
+  pub aggregate : demands.Aggregate
+  pub aggregate-log : demands.AggregateLog
+  pub in-order : demands.InOrder
+  pub stays-listed : demands.StaysListed
+  -- items that name different sets may change places
+  pub swap : demands.Swap
+  pub swap-within : demands.SwapWithin
+  -- ==== on the lent words
+  -- a run over words is the card's
+  pub words-stay : demands.WordsStay
+  pub words-run : demands.WordsRun
+  pub words-trace : demands.WordsTrace
+  pub words-swap : demands.WordsSwap
+  -- both demands of calls, one after another: with a reply, and with a part handed back
+  pub words-demand : holders.WordsDemand
+  pub part-demand : holders.PartDemand
+  -- "words past it are neither read nor written"
+  pub not-read : past.NotRead
+  pub not-written : past.NotWritten
+  pub set-up-not-read : past.SetUpNotRead
+  pub set-up-not-written : past.SetUpNotWritten
+  -- ==== for C
+  -- demand 1
+  pub refused-item : at-c.RefusedItem
+  pub refused-set-up : at-c.RefusedSetUp
+  -- both demands of calls on one region, one after another; no notice is lost to another set
+  pub set-up-legal-at-c : held-by-c.SetUpLegalAtC
+  pub demand-at-c : held-by-c.DemandAtC
+  pub notice-never-lost : held-by-c.NoticeNeverLost
+  -- ==== "Any two outcomes allowed by one statement are shown to coincide"
+  pub one-set-up : firm.OneSetUp
+  pub one-answer : firm.OneAnswer
+  pub one-handed : firm.OneHanded
+  pub one-set-up-at-c : at-c.OneSetUp
+  pub one-item : at-c.OneItem
+  pub one-charge : records.OneCharge
+  pub one-line : tape.OneLine
+  pub one-play : tape.OnePlay
+  -- ==== "Five idle builds are shut out."
+  pub not-refusing-all : idle.NotRefusingAll
+  pub not-alike : idle.NotAlike
+  pub not-still : idle.NotStill
+  pub not-first-only : idle.NotFirstOnly
+  pub marks-counted : idle.MarksCounted
+  pub ones-counted : idle.OnesCounted
+  pub lowest-first : idle.LowestFirst
+  -- ==== lent lists and lent records
+  pub their-own : lists.TheirOwn
+  pub too-many : lists.TooMany
+  pub stays-legal : records.StaysLegal
