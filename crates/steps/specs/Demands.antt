@@ -329,7 +329,8 @@ WindowStored =
     → answer (run c (command bytes given room ∷ items)) (command bytes′ given′ room′)
     ≡ granted (windowValue (commandIn bytes)) []
 
--- ==== from the step to the words: all of the above holds of a lent table that is handed from item to item
+-- ==== from the step to the words: a lent table that is handed from item to item runs as the card that it holds. (The demands of calls
+-- on it, one after another, are in Holders.antt.)
 
 abbrev pub runWords : List ℕ → List Item → List ℕ
 runWords ws [] = ws
