@@ -36,8 +36,6 @@ pub record Claim : Type 0 where
   pub set-up-exactly : demands.SetUpExactly
   pub set-up-refused : demands.SetUpRefused
   pub set-up-legal : demands.SetUpLegal
-  -- 01's rows are "checked in this order"
-  pub order : rows.Order
   -- what is legal, word by word
   pub legal-words : legal.LegalWords
   -- ==== demand 2: what each item does
@@ -55,8 +53,6 @@ pub record Claim : Type 0 where
   pub one-word : listing.OneWord
   pub count-is-ones : listing.CountIsOnes
   pub next-is-lowest : listing.NextIsLowest
-  -- "Edges to show"
-  pub edges : twelve.Edges
   -- ==== demand 3: each set by itself, on the card
   -- its record, and the answers to the items that name it
   pub named-items : demands.NamedItems
@@ -96,6 +92,9 @@ pub record Claim : Type 0 where
   pub set-up-legal-at-c : held-by-c.SetUpLegalAtC
   pub demand-at-c : held-by-c.DemandAtC
   pub notice-never-lost : held-by-c.NoticeNeverLost
+  -- ==== "Edges to show", and rows "checked in this order"
+  pub edges : twelve.Edges
+  pub order : rows.Order
   -- ==== "Any two outcomes allowed by one statement are shown to coincide"
   pub one-set-up : firm.OneSetUp
   pub one-answer : firm.OneAnswer
@@ -103,8 +102,6 @@ pub record Claim : Type 0 where
   pub one-set-up-at-c : at-c.OneSetUp
   pub one-item : at-c.OneItem
   pub one-charge : records.OneCharge
-  pub one-line : tape.OneLine
-  pub one-play : tape.OnePlay
   -- ==== "Five idle builds are shut out."
   pub not-refusing-all : idle.NotRefusingAll
   pub not-alike : idle.NotAlike
@@ -117,3 +114,6 @@ pub record Claim : Type 0 where
   pub their-own : lists.TheirOwn
   pub too-many : lists.TooMany
   pub stays-legal : records.StaysLegal
+  -- ==== the replay file and its printout: two outcomes of a line, and of an item that is played, are the same
+  pub one-line : tape.OneLine
+  pub one-play : tape.OnePlay
