@@ -1,12 +1,12 @@
 -- Bodies put one after another into bytes: what is held after each, and that set-up needs no more of a long list than it holds.
 use mathlib.Core.Path.{_≡_, refl, sym, ap, _∙_}
-use mathlib.Core.Bool.{Bool, true, false, and-false}
+use mathlib.Core.Bool.{Bool, true, false}
 use mathlib.Core.List.{List, [], _∷_, _++_, append-nil, append-assoc}
 use Prim.Native.Nat.{ℕ, suc, _+_, _-_, _*_, _/_, _≤_, _<_, min}
 use native.Mathlib.Omega.{arith}
 use native.Mathlib.Nat.{zero-add}
 use native.Mathlib.Numerals.{add-one}
-use borrow.Author.Tests.{ltb-true, ltb-false, leb-true, leb-false, lt-ltb, le-ltb, lt-leb}
+use borrow.Author.Tests.{ltb-true, ltb-false, leb-true, leb-false, lt-ltb, le-ltb}
 use borrow.Rule.Slice.PartMut.{putMid}
 use lib.Dec.{ltb, leb}
 use lib.ListN.{length, getD, take, drop, length-append, length-take, length-drop, take-append-drop}
@@ -16,12 +16,11 @@ use Rattle.octets.specs.Octets.{padded}
 use Rattle.octets.proofs.Runs.{sets-append, padded-whole}
 use Rattle.record.specs.declared.Attributes.{Attributes}
 use Rattle.table.specs.Table.{maxSets}
-use Rattle.replies.specs.Numbers.{badSetUp}
-use Rattle.replies.specs.Answers.{refused}
 use Rattle.pages.specs.Bodies.{bodySize, body, attributesIn}
 use Rattle.pages.proofs.Back.{body-length}
 use Rattle.steps.specs.Words.{Result}
-use Rattle.steps.specs.SetUp.{bodies, setUpStatus, setUp, SetUp}
+use Rattle.steps.specs.SetUp.{bodies, setUp, SetUp}
+use Rattle.steps.proofs.NewSets.{refused-many}
 use Rattle.by_reference.specs.Buffer.{withBody, firstBodies}
 use Rattle.by_reference.specs.Lists.{bodiesOf}
 
@@ -114,14 +113,6 @@ module _ (room : ℕ) (list : List Attributes) where
     filled-more after l e = record { long = l ∙ g .long; within = omega arith; laid = rw (add-one, e) (laid-by (ltb i (bodies bytes)) refl) }
 
 -- ---- more sets than a table may have are refused, however many more
-
-status-many : (bytes : List ℕ) (words : ℕ) → maxSets < bodies bytes → setUpStatus bytes words ≡ badSetUp
-unfolding setUpStatus
-status-many bytes words h = rw (lt-leb (bodies bytes) maxSets h, and-false)
-
-pub refused-many : (bytes ws : List ℕ) → maxSets < bodies bytes → setUp bytes ws ≡ record { table = ws; answer = refused badSetUp }
-unfolding setUp
-refused-many bytes ws h = rw (status-many bytes (length ws) h)
 
 module _ (list : List Attributes) (ws : List ℕ) (m : ℕ) (h : maxSets < m) where
   cut-by : (b : Bool) → leb (length list) m ≡ b → setUp (bodiesOf (take (min (length list) m) list)) ws ≡ setUp (bodiesOf list) ws

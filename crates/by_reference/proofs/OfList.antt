@@ -11,7 +11,8 @@ use Rattle.pages.proofs.Back.{body-length, body-alone, body-back}
 use Rattle.steps.specs.Words.{Result}
 use Rattle.steps.specs.SetUp.{newRecord, attributesFrom, newSets}
 use Rattle.by_reference.specs.Lists.{bodiesOf, TheirOwn, TooMany}
-use Rattle.by_reference.proofs.Filled.{bodies-many, refused-many}
+use Rattle.steps.proofs.NewSets.{refused-many}
+use Rattle.by_reference.proofs.Filled.{bodies-many}
 
 -- a body among bytes
 among : (before rest : List ℕ) (a : Attributes) → Sized a → attributesIn (before ++ (body a ++ rest)) (length before) ≡ a

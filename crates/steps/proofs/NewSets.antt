@@ -1,12 +1,12 @@
 -- Set-up: what a status of 0 tells, and that what set-up leaves is a legal table of the new sets.
 use mathlib.Core.Path.{_≡_, refl, sym, ap, _∙_}
-use mathlib.Core.Bool.{Bool, true, false, _&&_, and-true}
+use mathlib.Core.Bool.{Bool, true, false, _&&_, and-true, and-false}
 use mathlib.Core.List.{List, [], _∷_, map}
 use Prim.Native.Nat.{ℕ, zero, suc, _+_, _-_, _*_, _≤_, _<_}
 use native.Mathlib.Omega.{arith}
 use native.Mathlib.Nat.{sub-zero}
 use native.Mathlib.Numerals.{add-one}
-use borrow.Author.Tests.{eqb-true, eqb-false, ne-eqb, eq-eqb, not-false, leb-true, ltb-false}
+use borrow.Author.Tests.{eqb-true, eqb-false, ne-eqb, eq-eqb, not-false, leb-true, ltb-false, lt-leb}
 use lib.Dec.{eqb, leb}
 use lib.ListN.{length}
 use lib.Seq.{sets, length-sets}
@@ -15,6 +15,7 @@ use Rattle.octets.proofs.JoinedTests.{both}
 use Rattle.record.specs.declared.Attributes.{Attributes}
 use Rattle.record.specs.declared.Record.{Record}
 use Rattle.record.specs.Legal.{inRange, legalAttributes, legalRecord}
+use Rattle.replies.specs.Numbers.{badSetUp}
 use Rattle.replies.proofs.Rows.{passed}
 use Rattle.table.specs.Layout.{wordsOf}
 use Rattle.table.specs.Card.{Card, layoutNumber, header}
@@ -99,3 +100,13 @@ granted-by bytes ws s false q h = absurd (eqb-false s 0 q h)
 pub granted-table : (bytes ws : List ℕ) → setUp bytes ws .answer .status ≡ 0 → (setUpStatus bytes (length ws) ≡ 0) × (setUp bytes ws .table ≡ newTable bytes ws)
 unfolding setUp
 granted-table bytes ws h = granted-by bytes ws _ (eqb (setUpStatus bytes (length ws)) 0) refl h
+
+-- ---- more sets than a table may have are refused, however many more
+
+status-many : (bytes : List ℕ) (words : ℕ) → maxSets < bodies bytes → setUpStatus bytes words ≡ badSetUp
+unfolding setUpStatus
+status-many bytes words h = rw (lt-leb (bodies bytes) maxSets h, and-false)
+
+pub refused-many : (bytes ws : List ℕ) → maxSets < bodies bytes → setUp bytes ws ≡ record { table = ws; answer = refused badSetUp }
+unfolding setUp
+refused-many bytes ws h = rw (status-many bytes (length ws) h)

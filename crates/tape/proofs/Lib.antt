@@ -1,3 +1,6 @@
 pub mod Writing
 pub mod Playing
+pub mod Turns
+pub mod Advancing
+pub mod Printed
 pub mod Firm

@@ -59,7 +59,7 @@ pub played :
     → Put line₀ 0 (itemLine (record { status = status; dword = dword; bytes = bytes })) line n → Played ws (some i) line₀ n words line
 played ws i line₀ words line n status dword bytes t s d b p =
     let a : itemLine (record { status = status; dword = dword; bytes = bytes }) ≡ itemLine (stepWords ws i .answer) = rw (s, d, b) in
-    record { table = t; text = p .bytes ∙ ap (sets line₀ 0) a; count = omega (arith, p .place, ap length a) }
+    record { table = t; text = p .bytes ∙ ap (sets line₀ 0) a; count = omega (arith, p .place, ap length a); within = p .within }
 
 -- where no buffer was lent there is no data
 none-taken : (n : ℕ) → take {A = ℕ} n [] ≡ []
@@ -125,7 +125,7 @@ pub played-item :
 played-item ws kind body line₀ n words line e p = rw e p
 
 pub played-none : (ws : List ℕ) (kind : ℕ) (body line : List ℕ) → isItem kind body ≡ false → Played ws (itemIn kind body) line 0 ws line
-played-none ws kind body line e = rw e (record { table = refl; text = refl; count = refl })
+played-none ws kind body line e = rw e (record { table = refl; text = refl; count = refl; within = omega arith })
 
 -- ---- what stands next
 

@@ -9,8 +9,8 @@ use native.Mathlib.Nat.{add-suc, pow-suc, lt-trans, lt-of-lt-of-le, mod-lt}
 use native.Mathlib.Numerals.{add-one}
 use borrow.Author.Tests.{lt-ltb, le-ltb}
 use lib.Dec.{lit<}
-use lib.ListN.{length, length-append, getD, set, drop}
-use lib.Seq.{sets, drop-cons, drop-length}
+use lib.ListN.{length, length-append, length-set, getD, set, drop}
+use lib.Seq.{sets, length-sets, drop-cons, drop-length}
 use Rattle.octets.proofs.Runs.{set-sets, sets-join}
 use Rattle.tape.specs.Text.{digitOf, digitsOf, hexOf, placesBelow, places, dataHex, dataText, Put}
 
@@ -76,25 +76,44 @@ counted-end n k rest c h = (omega (arith, c .left, one-place (20 - k) rest h), c
 
 -- ---- pieces one after another
 
-pub put-digits : (before : List ℕ) (at base width v : ℕ) (after : List ℕ) → after ≡ sets before at (digitsOf base width v) → Put before at (digitsOf base width v) after (at + width)
-put-digits before at base width v after e = record { bytes = e; place = omega (arith, length-digits base width v) }
+-- a place within bytes lies within what is put into them
+pub still-within : (before : List ℕ) (at next : ℕ) (text after : List ℕ) → after ≡ sets before at text → next ≤ length before → next ≤ length after
+still-within before at next text after e h = rw (e, length-sets) h
+
+pub put-digits :
+    (before : List ℕ) (at base width v : ℕ) (after : List ℕ) → after ≡ sets before at (digitsOf base width v) → at + width ≤ length before
+    → Put before at (digitsOf base width v) after (at + width)
+put-digits before at base width v after e h =
+    record {
+      bytes = e;
+      place = omega (arith, length-digits base width v);
+      within = still-within before at (at + width) (digitsOf base width v) after e h;
+    }
 
 pub put-places :
-    (before : List ℕ) (at base k width v : ℕ) (after : List ℕ) → after ≡ sets before at (digitsOf base k v) → k ≡ width → Put before at (digitsOf base width v) after (at + k)
-put-places before at base k width v after e p =
-    record { bytes = rw (← p) e; place = omega (arith, p, length-digits base width v) }
+    (before : List ℕ) (at base k width v : ℕ) (after : List ℕ) → after ≡ sets before at (digitsOf base k v) → k ≡ width → at + k ≤ length before
+    → Put before at (digitsOf base width v) after (at + k)
+put-places before at base k width v after e p h =
+    record {
+      bytes = rw (← p) e;
+      place = omega (arith, p, length-digits base width v);
+      within = still-within before at (at + k) (digitsOf base k v) after e h;
+    }
 
 pub text-turn : (l text : List ℕ) (at i : ℕ) → i < length text → sets (set l (at + i) (getD text i 0)) (at + (i + 1)) (drop (i + 1) text) ≡ sets l (at + i) (drop i text)
 text-turn l text at i h = rw (drop-cons text i 0 h, add-one, add-suc)
 
-pub text-end : (l text before : List ℕ) (at i : ℕ) → i ≡ length text → sets l (at + i) (drop i text) ≡ sets before at text → Put before at text l (at + i)
-text-end l text before at i e h = record { bytes = rw (e, drop-length) at h; place = rw e }
+pub text-end :
+    (l text before : List ℕ) (at i : ℕ) → i ≡ length text → sets l (at + i) (drop i text) ≡ sets before at text → at + i ≤ length l
+    → Put before at text l (at + i)
+text-end l text before at i e h w = record { bytes = rw (e, drop-length) at h; place = rw e; within = w }
 
 pub then : (l m n xs ys : List ℕ) (a b c : ℕ) → Put l a xs m b → Put m b ys n c → Put l a (xs ++ ys) n c
 then l m n xs ys a b c p q =
     record {
       bytes = q .bytes ∙ ap₂ (λ (x : List ℕ) (k : ℕ). sets x k ys) (p .bytes) (p .place) ∙ sets-join xs ys l a;
       place = q .place ∙ omega (arith, p .place, length-append xs ys);
+      within = q .within;
     }
 
 -- ---- data
@@ -112,16 +131,17 @@ pub length-data : (bytes : List ℕ) → length (dataHex bytes) ≡ 2 * length b
 length-data [] = refl
 length-data (b ∷ bs) = length-append (hexOf 2 b) (dataHex bs) ∙ omega (arith, length-digits 16 2 b, length-data bs)
 
-pub put-data-none : (l bytes : List ℕ) (at : ℕ) → length bytes ≡ 0 → Put l at (dataText bytes) l at
-put-data-none l [] at e = record { bytes = refl; place = omega arith }
-put-data-none l (b ∷ bs) at e = absurd (omega arith)
+pub put-data-none : (l bytes : List ℕ) (at : ℕ) → length bytes ≡ 0 → at ≤ length l → Put l at (dataText bytes) l at
+put-data-none l [] at e h = record { bytes = refl; place = omega arith; within = h }
+put-data-none l (b ∷ bs) at e h = absurd (omega arith)
 
 pub put-data-some :
     (l bytes after : List ℕ) (at next : ℕ) → (length bytes ≡ 0 → ⊥) → after ≡ sets (set l at 32) (at + 1) (dataHex bytes) → next ≡ at + 1 + 2 * length bytes
-    → Put l at (dataText bytes) after next
-put-data-some l [] after at next n e p = absurd (n refl)
-put-data-some l (b ∷ bs) after at next n e p =
+    → at + 1 + 2 * length bytes ≤ length l → Put l at (dataText bytes) after next
+put-data-some l [] after at next n e p h = absurd (n refl)
+put-data-some l (b ∷ bs) after at next n e p h =
     record {
       bytes = e ∙ ap (λ (k : ℕ). sets (set l at 32) k (dataHex (b ∷ bs))) (add-one at);
       place = omega (arith, p, length-data (b ∷ bs));
+      within = rw (p, e, length-sets, length-set) h;
     }

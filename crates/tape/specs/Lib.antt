@@ -1,3 +1,5 @@
 pub mod Text
 pub mod Tape
+pub mod Printout
+pub mod Pieces
 pub mod Firm

@@ -3,7 +3,7 @@ use mathlib.Core.Path.{_≡_}
 use mathlib.Core.Bool.{Bool, _&&_}
 use mathlib.Core.List.{List, [], _∷_}
 use mathlib.Core.Option.{Option, none, some}
-use Prim.Native.Nat.{ℕ, _+_}
+use Prim.Native.Nat.{ℕ, _+_, _≤_}
 use lib.Dec.{eqb, ltb, leb}
 use lib.ListN.{length, getD, take, drop}
 use lib.Seq.{sets}
@@ -72,11 +72,12 @@ abbrev pub lineFor : List ℕ → Option Item → List ℕ
 lineFor ws none = []
 lineFor ws (some i) = itemLine (stepWords ws i .answer)
 
--- what playing an item promises: every word of the table, every byte of the line, and the line's length
+-- what playing an item promises: every word of the table, every byte of the line, and the line's length, for which there is room
 pub record Played (ws : List ℕ) (i : Option Item) (line₀ : List ℕ) (n : ℕ) (words line : List ℕ) : Type 0 where
   pub table : words ≡ wordsAfter ws i
   pub text : line ≡ sets line₀ 0 (lineFor ws i)
   pub count : n ≡ length (lineFor ws i)
+  pub within : n ≤ length line
 
 -- ---- what comes next, of the bytes that were read and not yet used; `last` says that the file has no more
 

@@ -1,7 +1,7 @@
 -- 01, "Replay file and its printout": the lines, as the bytes of their text.
 use mathlib.Core.Path.{_≡_}
 use mathlib.Core.List.{List, [], _∷_, _++_}
-use Prim.Native.Nat.{ℕ, zero, suc, _+_, _/_, _%_}
+use Prim.Native.Nat.{ℕ, zero, suc, _+_, _/_, _%_, _≤_}
 use lib.Dec.{ltb}
 use lib.ListN.{length}
 use lib.Seq.{sets}
@@ -90,7 +90,8 @@ dataText (b ∷ bs) = (space ∷ []) ++ dataHex (b ∷ bs)
 abbrev pub itemLine : Answer → List ℕ
 itemLine a = hexOf statusDigits (a .status) ++ (space ∷ []) ++ hexOf dwordDigits (a .dword) ++ dataText (a .bytes) ++ newline ∷ []
 
--- text put into bytes at a place: the bytes afterwards, and the place after it
+-- text put into bytes at a place: the bytes afterwards, and the place after it, which lies within them
 pub record Put (before : List ℕ) (at : ℕ) (text after : List ℕ) (next : ℕ) : Type 0 where
   pub bytes : after ≡ sets before at text
   pub place : next ≡ at + length text
+  pub within : next ≤ length after

@@ -10,8 +10,8 @@ pub put-data-spec : {M : Type 1} → statement M
 put-data-spec =
     tie.close
     (tie.spec
-    (λ c. let s = c .before .before .before in (put-data-none _ (s .args .bytes .now) _ (c .if1 .taken), search needs))
+    (λ c. let s = c .before .before .before in (put-data-none _ (s .args .bytes .now) _ (c .if1 .taken) (search needs), search needs))
     (λ c. search needs) (λ c. search needs) (λ c κs. search needs) (λ c. search needs) (λ c. search needs)
     (λ c. search needs)
     (λ c. rw (c .before .before .put-bytes .ensures, length-sets, length-set))
-    (λ c. let i = c .before .before .before .before in (put-data-some _ (i .before .before .before .args .bytes .now) _ _ _ (i .if1 .left) (c .before .before .put-bytes .ensures) refl, search needs)))
+    (λ c. let i = c .before .before .before .before in (put-data-some _ (i .before .before .before .args .bytes .now) _ _ _ (i .if1 .left) (c .before .before .put-bytes .ensures) refl (search needs), search needs)))

@@ -11,4 +11,4 @@ put-decimal-spec =
     (λ c κs. search needs) (λ c κs. search needs) (λ c. search needs) (λ c. search needs)
     (λ c.
     let p = c .before .before .before .before .places-of .ensures in
-    (put-places _ _ 10 _ _ _ _ (c .before .before .put-digits .ensures) (p .0), omega (arith, p .1))))
+    (put-places _ _ 10 _ _ _ _ (c .before .before .put-digits .ensures) (p .0) (omega (arith, p .1)), omega (arith, p .1))))

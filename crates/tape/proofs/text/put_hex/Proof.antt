@@ -8,4 +8,4 @@ put-hex-spec =
     tie.close
     (tie.spec
     (λ c κs. search needs) (λ c. search needs) (λ c. search needs)
-    (λ c. put-digits _ _ 16 _ _ _ (c .before .before .put-digits .ensures)))
+    (λ c. put-digits _ _ 16 _ _ _ (c .before .before .put-digits .ensures) (search needs)))

@@ -29,4 +29,4 @@ put-text-spec =
     let s = c .before .before .before in
     (search needs, search needs, text-turn (l .out) (s .args .text .now) (s .args .at) (l .i) (search needs) ∙ l .inv .2))
     (λ c. search needs) (λ c. search needs)
-    (λ c. text-end _ _ _ _ _ (omega arith) (c .before .loop .inv .2)))
+    (λ c. text-end _ _ _ _ _ (omega arith) (c .before .loop .inv .2) (omega arith)))

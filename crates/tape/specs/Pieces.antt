@@ -1,0 +1,197 @@
+-- A tape that is read piece by piece: what a call with one piece does, and that the texts of the calls, joined, are the printout.
+use mathlib.Core.Path.{_≡_}
+use mathlib.Core.Bool.{Bool, true, false}
+use mathlib.Core.List.{List, [], _∷_, _++_, map}
+use Prim.Native.Nat.{ℕ, zero, suc, _+_, _*_, _-_, _^_, _≤_, _<_, min}
+use lib.Dec.{eqb, ltb}
+use lib.ListN.{length, take, drop}
+use lib.Seq.{sets}
+use Rattle.octets.specs.Choice.{if_then_else_}
+use Rattle.octets.specs.Lists.{join}
+use Rattle.octets.specs.Octets.{part}
+use Rattle.table.specs.Table.{maxSets}
+use Rattle.pages.specs.Bodies.{bodySize}
+use Rattle.steps.specs.Words.{Result}
+use Rattle.steps.specs.SetUp.{setUp}
+use Rattle.tape.specs.Text.{setsLine, endLine, badLine}
+use Rattle.tape.specs.Tape.{attributesSize, wordsAfter, lineFor, nextSet, nextItem}
+use Rattle.tape.specs.Printout.{firstItem, itemLength, setLength, printoutOn}
+use Rattle.tape.specs.declared.Next.{Next}
+use Rattle.tape.specs.declared.Next.the-variants.{Whole, Short, Bad, Over}
+use Rattle.tape.specs.declared.Stage.{Stage}
+use Rattle.tape.specs.declared.Stage.the-variants.{Sets, Items, Ended}
+use Rattle.tape.specs.declared.Progress.{Progress}
+
+-- ---- what is kept from call to call
+
+-- how far the tape is, with so many sets read or items done; what a call has used of its piece and written to its buffer; and
+-- whether it can go on with what it has
+abbrev pub progress : Stage → ℕ → ℕ → ℕ → Bool → Progress
+progress stage count used len going = record { stage = stage; count = count; used = used; len = len; going = going }
+
+abbrev pub atStart : Progress
+atStart = progress Sets 0 0 0 true
+
+-- The bodies of the sets, until set-up is done. One more than a card can have sets is enough to have it refused.
+abbrev pub mostBodies : ℕ
+mostBodies = suc maxSets
+
+abbrev pub bodiesRoom : ℕ
+bodiesRoom = mostBodies * bodySize
+
+abbrev pub keptIn : List ℕ → ℕ → List ℕ → List ℕ
+keptIn bodies n body = if ltb n mostBodies then sets bodies (n * bodySize) body else bodies
+
+abbrev pub keptOf : List ℕ → ℕ → List ℕ
+keptOf bodies n = take (min n mostBodies * bodySize) bodies
+
+-- N is kept in 64 bits, and no file has so many items.
+abbrev pub mostCounted : ℕ
+mostCounted = 2 ^ 64 - 1
+
+abbrev pub oneMore : ℕ → ℕ
+oneMore n = if ltb n mostCounted then n + 1 else n
+
+-- ---- one turn, on the bytes that are left of a piece; `last` says that the file has no more
+
+-- what it leaves, how many bytes it uses, the text that it gives, and whether another may follow
+pub record Turn : Type 0 where
+  pub stage : Stage
+  pub count : ℕ
+  pub used : ℕ
+  pub going : Bool
+  pub words : List ℕ
+  pub bodies : List ℕ
+  pub text : List ℕ
+
+abbrev turn : Stage → ℕ → ℕ → Bool → List ℕ → List ℕ → List ℕ → Turn
+turn stage count used going words bodies text =
+    record { stage = stage; count = count; used = used; going = going; words = words; bodies = bodies; text = text }
+
+-- "If set-up is refused, only the first line."
+abbrev pub setUpTurn : ℕ → Result → List ℕ → Turn
+setUpTurn n result bodies =
+    let granted = eqb (result .answer .status) 0 in
+    turn (if granted then Items else Ended) 0 0 granted (result .table) bodies (setsLine n (result .answer .status))
+
+abbrev pub setTurn : Next → ℕ → List ℕ → List ℕ → List ℕ → Turn
+setTurn Whole n words bodies left = turn Sets (oneMore n) setLength true words (keptIn bodies n (part left 1 attributesSize)) []
+setTurn Short n words bodies left = turn Sets n 0 false words bodies []
+setTurn Bad n words bodies left = turn Ended n 0 false words bodies (badLine 0)
+setTurn Over n words bodies left = setUpTurn n (setUp (keptOf bodies n) words) bodies
+
+abbrev pub itemTurn : Next → ℕ → List ℕ → List ℕ → List ℕ → Turn
+itemTurn Whole n words bodies left =
+    turn Items (oneMore n) (itemLength left) true (wordsAfter words (firstItem left)) bodies (lineFor words (firstItem left))
+itemTurn Short n words bodies left = turn Items n 0 false words bodies []
+itemTurn Bad n words bodies left = turn Ended n 0 false words bodies (badLine n)
+itemTurn Over n words bodies left = turn Ended n 0 false words bodies (endLine n)
+
+abbrev pub turnAt : Stage → ℕ → List ℕ → List ℕ → List ℕ → Bool → Turn
+turnAt Sets n words bodies left last = setTurn (nextSet left last) n words bodies left
+turnAt Items n words bodies left last = itemTurn (nextItem left last) n words bodies left
+turnAt Ended n words bodies left last = turn Ended n 0 false words bodies []
+
+-- what a turn's function leaves: its line lies at the start of an array
+pub record Turned (t : Turn) (line₀ : List ℕ) (r : Progress) (words bodies line : List ℕ) : Type 0 where
+  pub progress-is : r ≡ progress (t .stage) (t .count) (t .used) (length (t .text)) (t .going)
+  pub table : words ≡ t .words
+  pub kept : bodies ≡ t .bodies
+  pub text : line ≡ sets line₀ 0 (t .text)
+  pub within : length (t .text) ≤ length line
+
+-- ---- a call: turns one after another, each line after the one before, until the tape has ended, more bytes are wanted, or the
+-- longest line might have no room
+
+-- the longest line: status, dword 0 and 4,096 bytes of data
+abbrev pub lineRoom : ℕ
+lineRoom = 8207
+
+-- a call stops after so many turns too, so that it ends whatever it is lent
+abbrev pub mostTurns : ℕ
+mostTurns = 65536
+
+-- a tape while it is played
+pub record Player : Type 0 where
+  pub at : Progress
+  pub words : List ℕ
+  pub bodies : List ℕ
+  pub out : List ℕ
+
+abbrev pub player : Progress → List ℕ → List ℕ → List ℕ → Player
+player at words bodies out = record { at = at; words = words; bodies = bodies; out = out }
+
+abbrev pub stopped : Player → Player
+stopped g = player (progress (g .at .stage) (g .at .count) (g .at .used) (g .at .len) false) (g .words) (g .bodies) (g .out)
+
+abbrev pub moved : Player → Turn → Player
+moved g t =
+    player (progress (t .stage) (t .count) (g .at .used + t .used) (g .at .len + length (t .text)) (t .going)) (t .words) (t .bodies)
+    (sets (g .out) (g .at .len) (t .text))
+
+unfoldable pub advanced : List ℕ → Bool → Player → Player
+advanced piece last g =
+    if ltb (length (g .out) - g .at .len) lineRoom
+    then stopped g
+    else moved g (turnAt (g .at .stage) (g .at .count) (g .words) (g .bodies) (drop (g .at .used) piece) last)
+
+-- for the function that takes one turn: how far it is lies within the piece and the buffer still
+pub record Advanced (g : Player) (piece : List ℕ) (last : Bool) (h : Player) : Type 0 where
+  pub is : h ≡ advanced piece last g
+  pub used-within : h .at .used ≤ length piece
+  pub text-within : h .at .len ≤ length (h .out)
+  pub same-room : length (h .out) ≡ length (g .out)
+
+unfoldable pub turns : ℕ → List ℕ → Bool → Player → Player
+turns zero piece last g = g
+turns (suc k) piece last g = if advanced piece last g .at .going then turns k piece last (advanced piece last g) else advanced piece last g
+
+-- from the start of a piece and of the buffer
+abbrev pub anew : Progress → Progress
+anew p = progress (p .stage) (p .count) 0 0 true
+
+-- What a call promises: how far the tape is, every word of the table, every byte of the bodies and of the buffer; how much of the
+-- piece is used, and that the text lies in the buffer.
+pub record PlayedOn (p : Progress) (words₀ bodies₀ out₀ piece : List ℕ) (last : Bool) (r : Progress) (words bodies out : List ℕ) : Type 0 where
+  pub played : player r words bodies out ≡ turns mostTurns piece last (player (anew p) words₀ bodies₀ out₀)
+  pub used-within : r .used ≤ length piece
+  pub text-within : r .len ≤ length out
+
+-- ---- calls one after another
+
+-- a call that was made: the bytes that were read for it, and those of the file that are still to come; whether it was told that
+-- there are none; its buffer; and what it left
+pub record Piece : Type 0 where
+  pub new : List ℕ
+  pub later : List ℕ
+  pub last : Bool
+  pub before : List ℕ
+  pub at : Progress
+  pub words : List ℕ
+  pub bodies : List ℕ
+  pub out : List ℕ
+
+-- Any pieces of a file: each call has what the one before left of its piece, and then the bytes that were read since. It is told
+-- `last` only where no byte is to come.
+abbrev pub Pieces : Progress → List ℕ → List ℕ → List ℕ → List ℕ → List Piece → Type 0
+Pieces p words bodies left coming [] = Unit {0}
+Pieces p words bodies left coming (c ∷ cs) =
+    (coming ≡ c .new ++ c .later) × (c .last ≡ true → c .later ≡ [])
+    × PlayedOn p words bodies (c .before) (left ++ c .new) (c .last) (c .at) (c .words) (c .bodies) (c .out)
+    × Pieces (c .at) (c .words) (c .bodies) (drop (c .at .used) (left ++ c .new)) (c .later) cs
+
+-- how far the tape is after them
+abbrev pub atEnd : Progress → List Piece → Progress
+atEnd p [] = p
+atEnd p (c ∷ cs) = atEnd (c .at) cs
+
+-- what they have written
+abbrev pub textOf : Piece → List ℕ
+textOf c = take (c .at .len) (c .out)
+
+-- "Output": whatever the pieces are in which a file is read, their texts, joined, are its printout once the tape has ended. (A file has
+-- fewer than 2 ^ 64 bytes. The bodies are lent as so many bytes, whatever they hold.) Proved as `printed` in proofs/Pieces.antt.
+abbrev pub Printed : Type 0
+Printed =
+    (words bodies file : List ℕ) (cs : List Piece) → length bodies ≡ bodiesRoom → length file < 2 ^ 64
+    → Pieces atStart words bodies [] file cs → atEnd atStart cs .stage ≡ Ended → join (map textOf cs) ≡ printoutOn words file
