@@ -1,95 +1,58 @@
-// The input, through a buffer of fixed size: what is read and not used yet lies between two places.
-pub const SIZE: usize = 65536;
+// The input, through a buffer of fixed size: what is read and not used yet lies at its front.
+ghost use mathlib.Core.Path.{_≡_};
+ghost use Prim.Native.Nat.{_-_, _≤_};
+ghost use lib.ListN.{length, take, drop};
+ghost use lib.Seq.{sets};
 
-pub struct Place {
-    pub at: usize,
-    pub end: usize,
+pub struct Feed {
+    // bytes that are there
+    pub have: usize,
     // the input has no more
     pub last: bool,
     // a read failed
     pub failed: bool,
 }
 
-pub fn start() -> Place {
-    Place {
-        at: 0,
-        end: 0,
-        last: false,
-        failed: false,
-    }
+fn made(have: usize, last: bool, failed: bool) -> Feed
+    ensures { λ r. ⌜ r .have ≡ have ⌝ }
+{
+    Feed { have, last, failed }
 }
 
-// The bytes between two places, moved to the front; how many there are.
-fn to_front(buf: &mut [u8], at: usize, end: usize) -> usize {
-    let mut i = 0;
-    let mut from = at;
-    while from < end {
-        if buf.len() <= from {
-            return i;
-        }
-        buf[i] = buf[from];
-        i += 1;
-        from += 1;
-    }
-    i
+// Before the first read.
+pub fn nothing() -> Feed
+    ensures { λ r. ⌜ r .have ≡ 0 ⌝ }
+{
+    made(0, false, false)
 }
 
-// One read after the bytes that are left. A read that fails is said on standard error.
-pub fn fill(fd: i32, buf: &mut [u8], p: Place) -> Place {
-    let kept = to_front(buf, p.at, p.end);
-    if buf.len() <= kept {
-        return Place {
-            at: 0,
-            end: buf.len(),
-            last: true,
-            failed: false,
-        };
+// One read after the bytes that are there, if there is room and the input has more. A read that fails is said on standard error.
+pub fn fill(fd: i32, buf: &mut [u8], f: Feed) -> Feed
+    requires { ⌜ f .have ≤ length (now buf) ⌝ }
+    ensures { λ r. ⌜ r .have ≤ length (now (buf .exit)) ⌝ }
+{
+    let have = f.have;
+    let last = f.last;
+    if last | (buf.len() <= have) {
+        return f;
     }
-    let got = libc::read(fd, &mut buf[kept..]);
+    let got = libc::read(fd, &mut buf[have..]);
     if got < 0 {
         os::fail(b"read");
     }
-    let n = io::count(got, &buf[kept..]);
-    Place {
-        at: 0,
-        end: kept + n,
-        last: n == 0,
-        failed: got < 0,
-    }
+    let n = io::count(got, &buf[have..]);
+    made(have + n, n == 0, got < 0)
 }
 
-// What is read and not used yet.
-pub fn left<'a>(buf: &'a [u8], p: Place) -> &'a [u8] {
-    let at = p.at;
-    let end = p.end;
-    if at <= end {
-        if end <= buf.len() {
-            return &buf[at..end];
-        }
+// The bytes from a place to their end, moved to the front; how many there are.
+pub fn to_front(buf: &mut [u8], at: usize, end: usize) -> usize
+    requires { ⌜ (at ≤ end) × (end ≤ length (now buf)) ⌝ }
+    ensures { λ r. ⌜ (r ≡ end - at) × (now (buf .exit) ≡ sets (now (buf .entry)) 0 (take (end - at) (drop at (now (buf .entry))))) ⌝ }
+{
+    let mut i = 0;
+    while at + i < end {
+        buf[i] = buf[at + i];
+        i += 1;
     }
-    &buf[0..0]
-}
-
-fn after(at: usize, size: usize) -> usize {
-    if at < SIZE {
-        if size < SIZE {
-            return at + 1 + size;
-        }
-    }
-    at
-}
-
-// The place after a kind and a body of so many bytes.
-pub fn past(p: Place, size: usize) -> Place {
-    let at = p.at;
-    let end = p.end;
-    let last = p.last;
-    let failed = p.failed;
-    let next = after(at, size);
-    Place {
-        at: next,
-        end,
-        last,
-        failed,
-    }
+    i
 }
