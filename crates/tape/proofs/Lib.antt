@@ -3,4 +3,5 @@ pub mod Playing
 pub mod Turns
 pub mod Advancing
 pub mod Printed
+pub mod MovesOn
 pub mod Firm

@@ -10,7 +10,9 @@ use Rattle.octets.specs.Choice.{if_then_else_}
 use Rattle.octets.specs.Lists.{join}
 use Rattle.octets.specs.Octets.{part}
 use Rattle.table.specs.Table.{maxSets}
+use Rattle.pages.specs.Features.{featureSize}
 use Rattle.pages.specs.Bodies.{bodySize}
+use Rattle.commands.specs.Commands.{commandSize}
 use Rattle.steps.specs.Words.{Result}
 use Rattle.steps.specs.SetUp.{setUp}
 use Rattle.tape.specs.Text.{setsLine, endLine, badLine}
@@ -190,8 +192,22 @@ abbrev pub textOf : Piece → List ℕ
 textOf c = take (c .at .len) (c .out)
 
 -- "Output": whatever the pieces are in which a file is read, their texts, joined, are its printout once the tape has ended. (A file has
--- fewer than 2 ^ 64 bytes. The bodies are lent as so many bytes, whatever they hold.) Proved as `printed` in proofs/Pieces.antt.
+-- fewer than 2 ^ 64 bytes. The bodies are lent as so many bytes, whatever they hold.) Proved as `printed` in proofs/Printed.antt.
 abbrev pub Printed : Type 0
 Printed =
     (words bodies file : List ℕ) (cs : List Piece) → length bodies ≡ bodiesRoom → length file < 2 ^ 64
     → Pieces atStart words bodies [] file cs → atEnd atStart cs .stage ≡ Ended → join (map textOf cs) ≡ printoutOn words file
+
+-- And the tape ends: a call with room for the longest line that is told `last`, or has as many bytes as the longest item, uses some of
+-- them or writes some text, unless the tape has ended. So whoever writes what comes, reads on where there is more, and calls again comes
+-- to the end of every file. Proved as `moves-on` in proofs/MovesOn.antt.
+
+-- a kind, and a command with its data
+abbrev pub longestItem : ℕ
+longestItem = 1 + commandSize + featureSize
+
+abbrev pub MovesOn : Type 0
+MovesOn =
+    (p : Progress) (words₀ bodies₀ out₀ piece : List ℕ) (last : Bool) (r : Progress) (words bodies out : List ℕ)
+    → PlayedOn p words₀ bodies₀ out₀ piece last r words bodies out → (p .stage ≡ Ended → ⊥) → lineRoom ≤ length out₀
+    → (last ≡ false → longestItem ≤ length piece) → 0 < r .used + r .len
