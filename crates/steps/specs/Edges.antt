@@ -49,7 +49,7 @@ afterExcursion = step (cardIn D silent 0) (excursion 7) .card
 -- ---- the commands
 
 -- 64 bytes with an opcode and dwords 10, 11 and 12
-abbrev commandOf : ℕ → ℕ → ℕ → ℕ → List ℕ
+abbrev pub commandOf : ℕ → ℕ → ℕ → ℕ → List ℕ
 commandOf opcode ten eleven twelve =
     bytesOf 4 opcode ++ replicate 36 0 ++ bytesOf 4 ten ++ bytesOf 4 eleven ++ bytesOf 4 twelve ++ replicate 12 0
 

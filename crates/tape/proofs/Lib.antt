@@ -4,4 +4,5 @@ pub mod Turns
 pub mod Advancing
 pub mod Printed
 pub mod MovesOn
+pub mod RunsHold
 pub mod Firm

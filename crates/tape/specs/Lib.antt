@@ -2,4 +2,5 @@ pub mod Text
 pub mod Tape
 pub mod Printout
 pub mod Pieces
+pub mod Runs
 pub mod Firm

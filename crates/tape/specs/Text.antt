@@ -1,12 +1,20 @@
 -- 01, "Replay file and its printout": the lines, as the bytes of their text.
 use mathlib.Core.Path.{_≡_}
 use mathlib.Core.List.{List, [], _∷_, _++_}
+use Prim.Native.Char.{code}
+use Prim.Native.String.{String}
+use Prim.Native.String as string
 use Prim.Native.Nat.{ℕ, zero, suc, _+_, _/_, _%_, _≤_}
 use lib.Dec.{ltb}
 use lib.ListN.{length}
 use lib.Seq.{sets}
 use Rattle.octets.specs.Choice.{if_then_else_}
 use Rattle.replies.specs.Answers.{Answer}
+
+-- a text's signs, by their numbers
+abbrev pub signs : String → List ℕ
+signs string.[] = []
+signs (string._∷_ c cs) = code c ∷ signs cs
 
 abbrev pub space : ℕ
 space = 32
@@ -54,16 +62,6 @@ dataHex (b ∷ bs) = hexOf 2 b ++ dataHex bs
 
 -- ---- the lines
 
--- the signs of "sets ", "end " and "bad "
-abbrev pub setsWord : List ℕ
-setsWord = 115 ∷ 101 ∷ 116 ∷ 115 ∷ space ∷ []
-
-abbrev pub endWord : List ℕ
-endWord = 101 ∷ 110 ∷ 100 ∷ space ∷ []
-
-abbrev pub badWord : List ℕ
-badWord = 98 ∷ 97 ∷ 100 ∷ space ∷ []
-
 -- four digits of a status number, as in "SSSS"; eight of a dword
 abbrev pub statusDigits : ℕ
 statusDigits = 4
@@ -73,14 +71,14 @@ dwordDigits = 8
 
 -- "sets N SSSS"
 abbrev pub setsLine : ℕ → ℕ → List ℕ
-setsLine n status = setsWord ++ decimalOf n ++ (space ∷ []) ++ hexOf statusDigits status ++ newline ∷ []
+setsLine n status = signs "sets " ++ decimalOf n ++ (space ∷ []) ++ hexOf statusDigits status ++ newline ∷ []
 
 -- "end N", "bad N"
 abbrev pub endLine : ℕ → List ℕ
-endLine n = endWord ++ decimalOf n ++ newline ∷ []
+endLine n = signs "end " ++ decimalOf n ++ newline ∷ []
 
 abbrev pub badLine : ℕ → List ℕ
-badLine n = badWord ++ decimalOf n ++ newline ∷ []
+badLine n = signs "bad " ++ decimalOf n ++ newline ∷ []
 
 -- "a line per item of status, dword 0 and, if given, data, all upper-case hex"
 abbrev pub dataText : List ℕ → List ℕ
