@@ -22,7 +22,10 @@ use Rattle.card_c.proofs.Refusals.{refused-item, refused-set-up, one-item}
 use Rattle.card_c.proofs.Refusals as at-c
 use Rattle.by_reference.proofs.OfList.{their-own, too-many}
 use Rattle.by_reference.proofs.OfRecord.{one-charge, stays-legal}
-use Rattle.tape.proofs.Firm.{one-line, one-play}
+use Rattle.tape.proofs.Printed.{printed}
+use Rattle.tape.proofs.MovesOn.{moves-on}
+use Rattle.tape.proofs.RunsHold.{runs-hold}
+use Rattle.tape.proofs.Firm.{one-line, one-play, one-piece}
 use Rattle.claim.specs.Claim.{Claim}
 
 pub claim : Claim
@@ -97,6 +100,10 @@ claim =
       their-own = their-own;
       too-many = too-many;
       stays-legal = stays-legal;
+      printed = printed;
+      moves-on = moves-on;
+      runs-hold = runs-hold;
       one-line = one-line;
       one-play = one-play;
+      one-piece = one-piece;
     }

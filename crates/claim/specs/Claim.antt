@@ -19,6 +19,8 @@ use Rattle.card_c.specs.Demands as at-c
 use Rattle.card_c.specs.HeldByC as held-by-c
 use Rattle.by_reference.specs.Lists as lists
 use Rattle.by_reference.specs.Records as records
+use Rattle.tape.specs.Pieces as pieces
+use Rattle.tape.specs.Runs as runs
 use Rattle.tape.specs.Firm as tape
 
 pub record Claim : Type 0 where
@@ -114,6 +116,13 @@ pub record Claim : Type 0 where
   pub their-own : lists.TheirOwn
   pub too-many : lists.TooMany
   pub stays-legal : records.StaysLegal
-  -- ==== the replay file and its printout: two outcomes of a line, and of an item that is played, are the same
+  -- ==== the replay file and its printout
+  -- whatever the pieces are in which a file is read, their texts, joined, are its printout; and a call moves on
+  pub printed : pieces.Printed
+  pub moves-on : pieces.MovesOn
+  -- the whole run, and each way in which a file can end
+  pub runs-hold : runs.RunsHold
+  -- two outcomes of a line, of an item and of a piece that is played, are the same
   pub one-line : tape.OneLine
   pub one-play : tape.OnePlay
+  pub one-piece : tape.OnePiece
