@@ -89,8 +89,8 @@ extern "C" {
 #define CARD_REPLY_LENGTH 4
 #define CARD_REPLY_RESERVED 8
 
-/* How much stack a call takes at most, with all that it calls but memcpy and memset. Measured: card_command 1,200, card_reads and
-   card_writes 336, card_tick 256, card_excursion 240, card_set_up 184. */
+/* How much stack a call takes at most, with all that it calls but memcpy and memset. Measured: card_command 1,216, card_reads and
+   card_writes 304, card_tick 272, card_excursion 240, card_set_up 184. */
 #define CARD_COMMAND_STACK_BYTES 2048
 #define CARD_STACK_BYTES 768 /* of any function but card_command */
 

@@ -1,5 +1,6 @@
 -- The proof of the claim: each statement by its proof, under its name.
 use Rattle.rules.proofs.Leads.{leads, starts-anew, held-stays, carries-none}
+use Rattle.rules.proofs.Warnings.{zero-never-warns, above-warns-on-entry, own-warning}
 use Rattle.rules.proofs.OffRefuses.{off-refuses}
 use Rattle.table.proofs.LegalWords.{legal-words}
 use Rattle.pages.proofs.Back.{data-back}
@@ -48,6 +49,9 @@ claim =
       starts-anew = starts-anew;
       held-stays = held-stays;
       carries-none = carries-none;
+      zero-never-warns = zero-never-warns;
+      above-warns-on-entry = above-warns-on-entry;
+      own-warning = own-warning;
       data-back = data-back;
       config-stored = config-stored;
       window-stored = window-stored;

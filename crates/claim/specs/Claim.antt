@@ -47,6 +47,10 @@ pub record Claim : Type 0 where
   pub starts-anew : door.StartsAnew
   pub held-stays : door.HeldStays
   pub carries-none : rules.CarriesNone
+  -- warnings
+  pub zero-never-warns : rules.ZeroNeverWarns
+  pub above-warns-on-entry : rules.AboveWarnsOnEntry
+  pub own-warning : rules.OwnWarning
   -- "What Set Features stores, Get Features hands back."
   pub data-back : features.DataBack
   pub config-stored : demands.ConfigStored
@@ -78,7 +82,7 @@ pub record Claim : Type 0 where
   pub words-run : demands.WordsRun
   pub words-trace : demands.WordsTrace
   pub words-swap : demands.WordsSwap
-  -- both demands of calls, one after another: with a reply, and with a part handed back
+  -- "hands back" of demand 2, and demand 3, of calls, one after another: with a reply, and with a part handed back
   pub words-demand : holders.WordsDemand
   pub part-demand : holders.PartDemand
   -- "words past it are neither read nor written"
@@ -90,7 +94,7 @@ pub record Claim : Type 0 where
   -- demand 1
   pub refused-item : at-c.RefusedItem
   pub refused-set-up : at-c.RefusedSetUp
-  -- both demands of calls on one region, one after another; no notice is lost to another set
+  -- "hands back" of demand 2, and demand 3, of calls on one region, one after another; no notice is lost to another set
   pub set-up-legal-at-c : held-by-c.SetUpLegalAtC
   pub demand-at-c : held-by-c.DemandAtC
   pub notice-never-lost : held-by-c.NoticeNeverLost

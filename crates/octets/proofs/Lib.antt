@@ -8,3 +8,4 @@ pub mod Pages
 pub mod Reading
 pub mod WordBytes
 pub mod InPlace
+pub mod Halves

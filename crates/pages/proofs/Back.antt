@@ -2,12 +2,12 @@
 use mathlib.Core.Path.{_≡_, refl, sym, ap, _∙_}
 use mathlib.Core.Bool.{Bool, true, false}
 use mathlib.Core.List.{List, [], _∷_, _++_}
-use mathlib.Core.Logic.{⊎-elim, _⊎_, inl, inr}
+use mathlib.Core.Logic.{inl, inr}
 use Prim.Native.Nat.{ℕ, zero, suc, _+_, _*_, _-_, _/_, _%_, _^_, _≤_, _<_}
-use native.Mathlib.Nat.{zero-add, mod-eq-of-lt, mod-lt, div-add-mod', eq-zero-or-pos}
+use native.Mathlib.Nat.{zero-add, mod-eq-of-lt}
 use native.Mathlib.Omega.{arith}
 use borrow.Author.Needs.{needs}
-use lib.Bits.{bitAnd, and-block, and-mask}
+use lib.Bits.{bitAnd}
 use lib.Dec.{eqb, lit<}
 use lib.ListN.{length, getD, take, drop, replicate, length-append, length-take, length-drop, length-replicate}
 use lib.Seq.{sets, length-sets, sets-eq, take-append-add, take-add, drop-drop}
@@ -35,13 +35,13 @@ use Rattle.record.specs.Quantities.{limit, spentOf, need}
 use Rattle.record.specs.Parts.{configOf}
 use Rattle.record.specs.Windows.{byWindow, windowNo}
 use Rattle.record.specs.Legal.{typicalMaximum, dayMs, legalAttributes}
-use Rattle.record.specs.Event.{bit, bitsOf, eventsIn, estimate}
-use Rattle.record.proofs.EventBits.{events-back}
+use Rattle.record.specs.Event.{bit, bitsOf, eventMask, eventsIn, estimate}
+use Rattle.record.proofs.EventBits.{events-back, masked}
 use Rattle.octets.specs.Numbers.{numberAt}
 use Rattle.pages.specs.Capacities.{lowHalf, highHalf, capacityIn}
 use Rattle.pages.specs.Bodies.{bodySize, bodyId, bodyGroup, bodyRandomRead, bodyOptimalWrite, bodyTotal, bodyUnallocated, bodyReads, bodyWrites, bodyTime, bodyHigh, bodyLow, bodyFields, body, attributesIn, keptOf, Sized}
 use Rattle.pages.specs.Latency.{latencySize, latencyFields, latencyPage}
-use Rattle.pages.specs.Features.{featureSize, configEnabled, configReads, configWrites, configTime, configPlaces, configFields, configPage, configIn, enevMask, handedBack, DataBack, Words}
+use Rattle.pages.specs.Features.{featureSize, configEnabled, configReads, configWrites, configTime, configPlaces, configFields, configPage, configIn, handedBack, DataBack, Words}
 use Rattle.octets.proofs.Pages.{length-place}
 use Rattle.octets.proofs.Reading.{read-below, number-within}
 
@@ -217,35 +217,6 @@ read-words bytes each =
     }
 
 -- ---- from data in to data out
-
-odd-or-even : (w : ℕ) → (w % 2 ≡ 0) ⊎ (w % 2 ≡ 1)
-odd-or-even w = ⊎-elim inl (λ p. inr (omega arith)) (eq-zero-or-pos (w % 2))
-
-bit-of : (w : ℕ) → bit (eqb (w % 2) 1) ≡ w % 2
-bit-of w = ⊎-elim (λ (e : w % 2 ≡ 0). rw e) (λ (e : w % 2 ≡ 1). rw e) (odd-or-even w)
-
--- the bits of the events that a number says are those within the mask
-two-bits : (x : ℕ) → x % 4 ≡ x % 2 + 2 * (x / 2 % 2)
-two-bits x = omega arith
-
-low-bits : (x : ℕ) → x / 2 ^ 0 % 2 + 2 * (x / 2 ^ 1 % 2) + 4 * (x / 2 ^ 2 % 2) ≡ x % 2 ^ 14 % 2 ^ 3
-low-bits x =
-    let within : x % 2 ^ 14 % 2 ^ 3 ≡ x % 8 = omega arith in
-    let lowest : x % 8 ≡ x % 2 + 2 * (x / 2 % 4) = omega arith in
-    let one : x / 2 ^ 0 ≡ x = omega arith in
-    let quarter : x / 2 ^ 2 ≡ x / 2 / 2 = omega arith in
-    rw (one, quarter) (omega (arith, within, lowest, two-bits (x / 2)))
-
-high-bits : (x : ℕ) → 0x4000 * (x / 2 ^ 14 % 2) + 0x8000 * (x / 2 ^ 15 % 2) ≡ x / 2 ^ 14 % 2 ^ 2 * 2 ^ 14
-high-bits x = omega arith
-
-masked : (x : ℕ) → bitsOf (eventsIn x) ≡ bitAnd x enevMask
-masked x =
-    let whole : x / 2 ^ 14 * 2 ^ 14 + x % 2 ^ 14 ≡ x = div-add-mod' x (2 ^ 14) in
-    let halves = and-block 14 (x / 2 ^ 14) 3 (x % 2 ^ 14) 7 (mod-lt x (lit< tt)) (lit< tt) in
-    let and : bitAnd x enevMask ≡ x / 2 ^ 14 % 2 ^ 2 * 2 ^ 14 + x % 2 ^ 14 % 2 ^ 3
-    = ap (λ (y : ℕ). bitAnd y enevMask) (sym whole) ∙ halves ∙ rw (and-mask (x / 2 ^ 14) 2, and-mask (x % 2 ^ 14) 3) in
-    rw (bit-of (x / 2 ^ 0), bit-of (x / 2 ^ 1), bit-of (x / 2 ^ 2), bit-of (x / 2 ^ 14), bit-of (x / 2 ^ 15)) (omega (arith, and, low-bits x, high-bits x))
 
 -- of a page, two runs that are put on it
 two-runs : (z b q : List ℕ) (gap : ℕ) → length b + gap + length q ≤ length z

@@ -2,10 +2,10 @@
 use mathlib.Core.Path.{_≡_, refl, sym, ap, _∙_}
 use mathlib.Core.Bool.{Bool, true, false}
 use mathlib.Core.List.{List, [], _∷_}
-use mathlib.Core.Logic.{⊎-elim, _⊎_, inl, inr}
+use mathlib.Core.Logic.{⊎-elim}
 use Prim.Native.Nat.{ℕ, zero, suc, _+_, _*_, _-_, _/_, _%_, _^_, _≤_, _<_, min}
 use native.Mathlib.Omega.{arith}
-use native.Mathlib.Nat.{pow-suc, eq-zero-or-pos}
+use native.Mathlib.Nat.{pow-suc}
 use lib.Bits.{bitAnd, and-step, and-self, and-le-r}
 use lib.Count.{ones, ones-step, trailingZeros, under}
 use lib.Dec.{eqb}
@@ -14,6 +14,7 @@ use lib.Seq.{sets}
 use borrow.Author.Tests.{le-leb}
 use Rattle.octets.specs.Octets.{bytesOf}
 use Rattle.octets.specs.Pages.{puts, tidy, Fit, readings, values}
+use Rattle.octets.proofs.Halves.{odd-or-even}
 use Rattle.octets.proofs.Pages.{placed, read-back}
 use Rattle.record.specs.Event.{bit}
 use Rattle.table.specs.Table.{maxSets, wordOf}
@@ -26,9 +27,6 @@ cleared w = bitAnd w (w - 1)
 cleared-is : (w : ℕ) → bitAnd w (w - 1) ≡ cleared w
 unfolding cleared
 cleared-is w = refl
-
-odd-or-even : (w : ℕ) → (w % 2 ≡ 0) ⊎ (w % 2 ≡ 1)
-odd-or-even w = ⊎-elim inl (λ p. inr (omega arith)) (eq-zero-or-pos (w % 2))
 
 cleared-even : (w : ℕ) → 0 < w → w % 2 ≡ 0 → cleared w ≡ cleared (w / 2) * 2
 unfolding cleared

@@ -10,7 +10,7 @@ use Rattle.octets.specs.Pages.{Field, span, fieldsAt, readAt, place}
 use Rattle.record.specs.declared.Thresholds.{Thresholds}
 use Rattle.record.specs.declared.Config.{Config}
 use Rattle.record.specs.Parts.{configOf}
-use Rattle.record.specs.Event.{bitsOf, eventsIn}
+use Rattle.record.specs.Event.{bitsOf, eventMask, eventsIn}
 
 -- "512 data bytes"
 abbrev pub featureSize : ℕ
@@ -51,18 +51,14 @@ configIn bytes =
 
 -- ---- from the data in of Set Features to the data out of Get Features, byte by byte
 
--- "ENEV (masked with C007h)"
-abbrev pub enevMask : ℕ
-enevMask = 0xC007
-
 -- the three thresholds together: bytes 55:32
 abbrev pub configThresholds : Place
 configThresholds = span 32 24
 
--- ENEV's two bytes masked, the bytes of the thresholds as they went in, and "the rest zero when returned"
+-- "ENEV (masked with C007h)", the bytes of the thresholds as they went in, and "the rest zero when returned"
 unfoldable pub handedBack : List ℕ → List ℕ
 handedBack given =
-    bytesOf (configEnabled .width) (bitAnd (readAt given 0 configEnabled) enevMask)
+    bytesOf (configEnabled .width) (bitAnd (readAt given 0 configEnabled) eventMask)
     ++ replicate (configThresholds .at - configEnabled .width) 0
     ++ part given (configThresholds .at) (configThresholds .width)
     ++ replicate (featureSize - (configThresholds .at + configThresholds .width)) 0

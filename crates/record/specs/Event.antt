@@ -52,6 +52,10 @@ bitsOf e = bit (e .reads) + 2 * bit (e .writes) + 4 * bit (e .time) + 0x4000 * b
 abbrev pub hasBit : ℕ → ℕ → Bool
 hasBit k x = eqb (x / 2 ^ k % 2) 1
 
+-- the bits of all events: "C007h"
+abbrev pub eventMask : ℕ
+eventMask = 0xC007
+
 -- the events of a 16-bit number: "masked with C007h", since the other bits are not looked at
 abbrev pub eventsIn : ℕ → Events
 eventsIn x = eventsOf (hasBit 0 x) (hasBit 1 x) (hasBit 2 x) (hasBit 14 x) (hasBit 15 x)

@@ -26,10 +26,11 @@ pub fn nothing() -> Feed
     made(0, false, false)
 }
 
-// One read after the bytes that are there, if there is room and the input has more. A read that fails is said on standard error.
+// One read after the bytes that are there, which stay, if there is room and the input has more. A read that fails is said on standard
+// error.
 pub fn fill(fd: i32, buf: &mut [u8], f: Feed) -> Feed
     requires { ⌜ f .have ≤ length (now buf) ⌝ }
-    ensures { λ r. ⌜ r .have ≤ length (now (buf .exit)) ⌝ }
+    ensures { λ r. ⌜ (f .have ≤ r .have) × (r .have ≤ length (now (buf .exit))) × (take (f .have) (now (buf .exit)) ≡ take (f .have) (now (buf .entry))) ⌝ }
 {
     let have = f.have;
     let last = f.last;

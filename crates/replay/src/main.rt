@@ -18,6 +18,7 @@ use tape::pieces::play_on;
 // The words of as many sets as a card can have.
 const WORDS: usize = HEADER + MAX_SETS * ROW;
 
+// Of what is read and of what is written. More than the longest item and the longest line have, so that each call moves on.
 const SIZE: usize = 65536;
 
 // The descriptor to read from, or -1 where the file cannot be opened, which is said on standard error.

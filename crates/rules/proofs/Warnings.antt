@@ -1,4 +1,4 @@
--- What 01's words on warnings come to.
+-- What 01's words on warnings come to, as specs/Rules.antt says.
 use mathlib.Core.Path.{_≡_, refl}
 use mathlib.Core.Bool.{Bool, true, false, and-false, and-true}
 use Prim.Native.Nat.{ℕ, _+_, _-_, _<_}
@@ -8,29 +8,23 @@ use Rattle.octets.specs.Choice.{if_then_else_}
 use Rattle.record.specs.declared.Attributes.{Attributes}
 use Rattle.record.specs.declared.Quantity.{Quantity}
 use Rattle.record.specs.declared.Quantity.the-variants.{Reads, Writes, Time}
-use Rattle.record.specs.declared.Config.{Config}
 use Rattle.record.specs.declared.State.{State}
 use Rattle.record.specs.declared.Effect.{Effect}
 use Rattle.record.specs.Quantities.{limit, spentOf, threshold, enables}
 use Rattle.record.specs.Event.{leftOf, warning, warns, startsBelow, andExceeded}
-use Rattle.rules.specs.Rules.{isOver, charge}
+use Rattle.rules.specs.Rules.{isOver, charge, ZeroNeverWarns, AboveWarnsOnEntry, OwnWarning}
 
-module _ (q : Quantity) (a : Attributes) (c : Config) where
-  -- threshold 0 never warns: no estimate is below it
-  pub zero-falls : (before after : ℕ) → threshold q (c .thresholds) ≡ 0 → warns q c before after ≡ false
-  zero-falls before after e = rw (e, le-ltb after 0 (omega arith), and-false)
+pub zero-never-warns : ZeroNeverWarns
+zero-never-warns q a c before after e =
+    (rw (e, le-ltb after 0 (omega arith), and-false), rw (e, le-ltb (limit q a) 0 (omega arith), and-false))
 
-  pub zero-starts : threshold q (c .thresholds) ≡ 0 → startsBelow q a c ≡ false
-  zero-starts e = rw (e, le-ltb (limit q a) 0 (omega arith), and-false)
+pub above-warns-on-entry : AboveWarnsOnEntry
+above-warns-on-entry q a c n after h = (
+  rw (lt-ltb (limit q a) (threshold q (c .thresholds)) h, and-true),
+  rw (lt-leb (threshold q (c .thresholds)) (limit q a - n) (omega arith), and-false),
+)
 
-  -- a threshold above typical warns on each entry to D, if its bit is enabled, and at no charge: once
-  pub above-starts : limit q a < threshold q (c .thresholds) → startsBelow q a c ≡ enables q (c .enabled)
-  above-starts h = rw (lt-ltb (limit q a) (threshold q (c .thresholds)) h, and-true)
-
-  pub above-falls : (n after : ℕ) → limit q a < threshold q (c .thresholds) → warns q c (leftOf q a n) after ≡ false
-  above-falls n after h = rw (lt-leb (threshold q (c .thresholds)) (limit q a - n) (omega arith), and-false)
-
--- one item sets several warnings only by entering D: a charge sets at most its own
+-- one item sets several warnings only by entering D
 own-only : (p q : Quantity) → (p ≡ q → ⊥) → (b : Bool) → (enables p (warning q b) ≡ false) × (enables p (andExceeded (warning q b)) ≡ false)
 own-only Reads Reads n b = absurd (n refl)
 own-only Reads Writes n b = (refl, refl)
@@ -46,7 +40,7 @@ by-test : (b : Bool) (p : Quantity) (e f : Effect) → enables p (e .happened) �
 by-test true p e f x y = x
 by-test false p e f x y = y
 
-pub one-warning : (p q : Quantity) (k : ℕ) (a : Attributes) (s : State) → (p ≡ q → ⊥) → enables p (charge q k a s .happened) ≡ false
-one-warning p q k a s n =
+pub own-warning : OwnWarning
+own-warning p q k a s n =
     let o = own-only p q n (warns q (s .config) (leftOf q a (spentOf q (s .spent))) (leftOf q a (spentOf q (s .spent) + k))) in
     by-test (isOver q (limit q a) (spentOf q (s .spent) + k)) p _ _ (o .1) (o .0)

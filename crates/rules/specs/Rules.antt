@@ -1,7 +1,7 @@
 -- 01, "Window changes": what each item does to one set. A rule sees attributes and state, never events or the listed mark, and only
 -- the door of Door.antt makes a window.
 use mathlib.Core.Path.{_≡_}
-use Prim.Native.Nat.{ℕ, _+_, _-_, min}
+use Prim.Native.Nat.{ℕ, _+_, _-_, _<_, min}
 use mathlib.Core.Bool.{Bool, true, false, not, _&&_}
 use lib.Dec.{ltb, leb, eqb}
 use Rattle.octets.specs.Choice.{if_then_else_}
@@ -19,11 +19,11 @@ use Rattle.record.specs.declared.Config.{Config}
 use Rattle.record.specs.declared.State.{State}
 use Rattle.record.specs.declared.Effect.{Effect}
 use Rattle.record.specs.Parts.{recovers, configured, havingRecovered, effectOf}
-use Rattle.record.specs.Quantities.{limit, spentOf, need, spending}
+use Rattle.record.specs.Quantities.{limit, spentOf, threshold, enables, need, spending}
 use Rattle.record.specs.Windows.{byWindow, sameWindow}
 use Rattle.rules.specs.Changes.{movedBy}
 use Rattle.rules.specs.Door.{carriedBy, going}
-use Rattle.record.specs.Event.{leftOf, noEvents, warning, warns, enteringD, andExceeded, anExcursion}
+use Rattle.record.specs.Event.{leftOf, noEvents, warning, warns, startsBelow, enteringD, andExceeded, anExcursion}
 use Rattle.record.specs.declared.Events.{Events}
 
 -- an item that does no clearing read
@@ -124,7 +124,24 @@ tick t a s = byWindow (s .window) (still s) (charge Time t a s) (still (recoveri
 abbrev pub clearingRead : State → Effect
 clearingRead s = effectOf s noEvents true
 
--- ---- A law, proved as `carries-none` in proofs/Leads.antt.
+-- ---- Laws, each proved under its name, in lower case and with dashes: those on warnings in proofs/Warnings.antt, the last in
+-- proofs/Leads.antt.
+
+-- "threshold 0 never warns": no estimate is below it
+abbrev pub ZeroNeverWarns : Type 0
+ZeroNeverWarns =
+    (q : Quantity) (a : Attributes) (c : Config) (before after : ℕ) → threshold q (c .thresholds) ≡ 0
+    → (warns q c before after ≡ false) × (startsBelow q a c ≡ false)
+
+-- a threshold above typical, or above maximum, warns on each entry to D, if its bit is enabled, and at no charge
+abbrev pub AboveWarnsOnEntry : Type 0
+AboveWarnsOnEntry =
+    (q : Quantity) (a : Attributes) (c : Config) (n after : ℕ) → limit q a < threshold q (c .thresholds)
+    → (startsBelow q a c ≡ enables q (c .enabled)) × (warns q c (leftOf q a n) after ≡ false)
+
+-- a charge sets no warning but its own quantity's
+abbrev pub OwnWarning : Type 0
+OwnWarning = (p q : Quantity) (k : ℕ) (a : Attributes) (s : State) → (p ≡ q → ⊥) → enables p (charge q k a s .happened) ≡ false
 
 -- only time up carries N time over: who leaves D by exceeding starts N with none
 abbrev pub CarriesNone : Type 0

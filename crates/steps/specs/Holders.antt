@@ -172,7 +172,7 @@ module _ (H : Holder) where
       → featureSet (commandIn bytes′) ≡ featureSet (commandIn bytes) → H .status (d .back) ≡ 0
       → d .back ≡ H .shows (d .lent) (granted (windowValue (commandIn bytes)) [])
 
--- All of it, of both demands, under one name.
+-- All of it, "hands back" of demand 2 and demand 3, under one name.
 pub record Demanded (H : Holder) : Type 0 where
   pub stays-legal : StaysLegal H
   pub own-records : OwnRecords H

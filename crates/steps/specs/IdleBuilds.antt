@@ -48,6 +48,13 @@ NotFirstOnly = FirstOnly → ⊥
 
 -- ---- "One that invents the number of entries breaks 0Bh, where it equals the marks set."
 
+-- how many dwords have the count, and the first entry too
+abbrev pub countDwords : ℕ
+countDwords = 2
+
+abbrev pub entryDwords : ℕ
+entryDwords = 3
+
 -- a read of page 0Bh from its start, of so many dwords at least, that is carried out on a legal card
 pub record ListRead (c : Card) (bytes given : List ℕ) (room least : ℕ) : Type 0 where
   pub legal : legalSets 0 (c .sets) ≡ true
@@ -66,18 +73,18 @@ firstRead c i = numberOf (part (answer c i .bytes) firstListed listedSize)
 
 abbrev pub MarksCounted : Type 0
 MarksCounted =
-    (c : Card) (bytes given : List ℕ) (room : ℕ) → ListRead c bytes given room 2
+    (c : Card) (bytes given : List ℕ) (room : ℕ) → ListRead c bytes given room countDwords
     → entriesRead c (command bytes given room) ≡ length (keep (λ r. r .notes .listed) (c .sets))
 
 -- "The listed marks of all sets are gathered as one word of bits; the count is its ones": of the marks that the card holds
 abbrev pub OnesCounted : Type 0
 OnesCounted =
-    (c : Card) (bytes given : List ℕ) (room : ℕ) → ListRead c bytes given room 2
+    (c : Card) (bytes given : List ℕ) (room : ℕ) → ListRead c bytes given room countDwords
     → entriesRead c (command bytes given room) ≡ ones (listedWord (c .sets))
 
 -- "and the next entry its lowest one": the first is the identifier in that slot. (The entries after it go by `NextIsLowest` of
 -- crates/pages/specs/Aggregate.antt.)
 abbrev pub LowestFirst : Type 0
 LowestFirst =
-    (c : Card) (bytes given : List ℕ) (room : ℕ) → ListRead c bytes given room 3 → 0 < listedWord (c .sets)
+    (c : Card) (bytes given : List ℕ) (room : ℕ) → ListRead c bytes given room entryDwords → 0 < listedWord (c .sets)
     → firstRead c (command bytes given room) ≡ getD (map idOf (c .sets)) (lowestOne (listedWord (c .sets))) 0

@@ -1,5 +1,5 @@
 -- The words of a record, and how much of each legal word its field holds: all of it.
-use mathlib.Core.Path.{_≡_, refl, sym, ap}
+use mathlib.Core.Path.{_≡_, refl, sym, ap, _∙_}
 use mathlib.Core.Bool.{Bool, true, false, not, _&&_, _||_}
 use mathlib.Core.List.{List}
 use Prim.Native.Nat.{ℕ, _%_, _^_, _≤_}
@@ -15,14 +15,14 @@ use Rattle.record.specs.declared.Record.{Record}
 use Rattle.record.specs.Windows.{byWindow, windowNo}
 use Rattle.record.specs.Event.{bit, bitsOf, eventsOf, someEvent}
 use Rattle.record.specs.Legal.{numberMaximum, fourBytesMaximum, typicalMaximum, dayMs, legalRecord}
-use Rattle.record.proofs.EventBits.{events-back}
+use Rattle.record.proofs.EventBits.{events-back, masked}
 use Rattle.table.specs.Layout.{wordsOf}
 use Rattle.table.specs.LegalWords.{word, staticsLegal, inD, inN, withinBits, zeroOutside, changingLegal, notesLegal, wordsLegal}
 
 -- ---- the words of a record are legal exactly where the record is
 
 bits-within : (e : Events) → withinBits (bitsOf e) ≡ true
-bits-within e = eq-eqb _ _ (ap bitsOf (sym (events-back e)))
+bits-within e = eq-eqb _ _ (ap bitsOf (sym (events-back e)) ∙ masked (bitsOf e))
 
 changing-words :
     (w : Window) (b : Bool) (r o t m reads writes time need : ℕ) → b ≡ true

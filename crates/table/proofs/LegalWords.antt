@@ -13,6 +13,7 @@ use Rattle.octets.proofs.JoinedTests.{both, together}
 use Rattle.record.specs.Windows.{windowNo}
 use Rattle.record.specs.Event.{bit, bitsOf, eventsIn}
 use Rattle.record.specs.Parts.{idOf}
+use Rattle.record.proofs.EventBits.{masked}
 use Rattle.table.specs.Layout.{rowWords, wordsOf, windowIn, recordOf}
 use Rattle.table.specs.Table.{sameWords, legalRow, legalAfter}
 use Rattle.table.specs.LegalWords.{word, staticsLegal, withinBits, zeroOutside, changingLegal, notesLegal, wordsLegal, LegalWords}
@@ -81,8 +82,8 @@ module _ (a : List ℕ) (long : length a ≡ rowWords) where
       let c = changing a (q .1) in
       let w = window-held (word a 17) (c .window) in
       let l = bit-held (word a 23) (mark-small _ _ (n .1)) in
-      let v : bitsOf (eventsIn (word a 13)) ≡ word a 13 = sym (eqb-true _ _ (c .enev)) in
-      let e : bitsOf (eventsIn (word a 22)) ≡ word a 22 = sym (eqb-true _ _ (n .0)) in
+      let v : bitsOf (eventsIn (word a 13)) ≡ word a 13 = masked (word a 13) ∙ sym (eqb-true _ _ (c .enev)) in
+      let e : bitsOf (eventsIn (word a 22)) ≡ word a 22 = masked (word a 22) ∙ sym (eqb-true _ _ (n .0)) in
       rw (f .id, f .group, f .random, f .optimal, f .«reads_typical», f .«writes_typical», f .«time_maximum», f .high, f .low, f .reads, f .writes, f .time, f .recovery, w, v, e, l) shape
 
   -- ---- so the two are the same

@@ -3,10 +3,11 @@ use mathlib.Core.Path.{_≡_}
 use mathlib.Core.Bool.{Bool, not, _&&_, _||_}
 use mathlib.Core.List.{List}
 use Prim.Native.Nat.{ℕ}
+use lib.Bits.{bitAnd}
 use lib.Dec.{leb, ltb, eqb}
 use lib.ListN.{length, getD}
 use Rattle.octets.specs.Choice.{if_then_else_}
-use Rattle.record.specs.Event.{bitsOf, eventsIn}
+use Rattle.record.specs.Event.{eventMask}
 use Rattle.record.specs.Legal.{numberMaximum, fourBytesMaximum, typicalMaximum, dayMs, inRange}
 use Rattle.table.specs.Layout.{rowWords}
 use Rattle.table.specs.Table.{legalRow}
@@ -34,9 +35,9 @@ staticsLegal a =
     && inRange dayMs (word a 12)
     && leb (word a 12) (word a 11)
 
--- "within C007h": a number of event bits and of no other
+-- "within C007h"
 abbrev pub withinBits : ℕ → Bool
-withinBits x = eqb x (bitsOf (eventsIn x))
+withinBits x = eqb x (bitAnd x eventMask)
 
 -- word 17 is 1 in D and 2 in N
 abbrev pub inD : List ℕ → Bool

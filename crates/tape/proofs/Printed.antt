@@ -22,7 +22,7 @@ use Rattle.steps.proofs.NewSets.{refused-many}
 use Rattle.tape.specs.Text.{setsLine, badLine, endLine}
 use Rattle.tape.specs.Tape.{itemSize, attributesKind, attributesSize, wordsAfter, lineFor, nextBody, nextSet, nextItem}
 use Rattle.tape.specs.Printout.{byNext, firstItem, itemLength, itemsText, setLength, setUpText, setsText, printoutOn}
-use Rattle.tape.specs.Pieces.{progress, atStart, mostBodies, bodiesRoom, keptIn, keptOf, mostCounted, oneMore, Turn, setUpTurn, setTurn, itemTurn, turnAt, lineRoom, Player, player, stopped, moved, advanced, turns, mostTurns, anew, PlayedOn, Piece, Pieces, atEnd, textOf, Printed}
+use Rattle.tape.specs.Pieces.{progress, atStart, mostBodies, bodiesRoom, bodiesWith, bodiesKept, mostCounted, oneMore, Turn, setUpTurn, setTurn, itemTurn, turnAt, lineRoom, Player, player, stopped, moved, advanced, turns, mostTurns, anew, PlayedOn, Call, Calls, atEnd, textOf, Printed}
 use Rattle.tape.specs.declared.Next.{Next}
 use Rattle.tape.specs.declared.Next.the-variants.{Whole, Short, Bad, Over}
 use Rattle.tape.specs.declared.Stage.{Stage}
@@ -116,7 +116,7 @@ take-sets l vs at n e h =
     rw (sets-eq vs l at (omega arith)) (take-at (take at l ++ vs) (drop (at + length vs) l) (at + n) long)
 
 module _ (kept body : List ℕ) (n : ℕ) (room : length kept ≡ bodiesRoom) (size : length body ≡ bodySize) where
-  kept-more : n < mostBodies → keptOf (sets kept (n * bodySize) body) (n + 1) ≡ keptOf kept n ++ body
+  kept-more : n < mostBodies → bodiesKept (sets kept (n * bodySize) body) (n + 1) ≡ bodiesKept kept n ++ body
   kept-more h =
       let after : min (n + 1) mostBodies * bodySize ≡ n * bodySize + bodySize = omega arith in
       let before : min n mostBodies * bodySize ≡ n * bodySize = omega arith in
@@ -125,7 +125,7 @@ module _ (kept body : List ℕ) (n : ℕ) (room : length kept ≡ bodiesRoom) (s
   -- whether the body is kept or not, set-up says the same
   kept-alike-by :
       (k : ℕ) (words bytes : List ℕ) (b : Bool) → ltb n mostBodies ≡ b
-      → setsText k words (n + 1) (keptOf kept n ++ body) bytes ≡ setsText k words (n + 1) (keptOf (if b then sets kept (n * bodySize) body else kept) (n + 1)) bytes
+      → setsText k words (n + 1) (bodiesKept kept n ++ body) bytes ≡ setsText k words (n + 1) (bodiesKept (if b then sets kept (n * bodySize) body else kept) (n + 1)) bytes
   kept-alike-by k words bytes true e = ap (λ (l : List ℕ). setsText k words (n + 1) l bytes) (sym (kept-more (ltb-true n mostBodies e)))
   kept-alike-by k words bytes false e =
       let over : mostBodies ≤ n = ltb-false n mostBodies e in
@@ -137,20 +137,20 @@ module _ (kept body : List ℕ) (n : ℕ) (room : length kept ≡ bodiesRoom) (s
 
   kept-alike :
       (k : ℕ) (words bytes : List ℕ)
-      → setsText k words (n + 1) (keptOf kept n ++ body) bytes ≡ setsText k words (n + 1) (keptOf (keptIn kept n body) (n + 1)) bytes
+      → setsText k words (n + 1) (bodiesKept kept n ++ body) bytes ≡ setsText k words (n + 1) (bodiesKept (bodiesWith kept n body) (n + 1)) bytes
   kept-alike k words bytes = kept-alike-by k words bytes (ltb n mostBodies) refl
 
   kept-room-by : (b : Bool) → length (if b then sets kept (n * bodySize) body else kept) ≡ bodiesRoom
   kept-room-by true = length-sets kept (n * bodySize) body ∙ room
   kept-room-by false = room
 
-  kept-room : length (keptIn kept n body) ≡ bodiesRoom
+  kept-room : length (bodiesWith kept n body) ≡ bodiesRoom
   kept-room = kept-room-by (ltb n mostBodies)
 
 -- ---- the text that is still to come, from where the tape is and the bytes that are left
 
 abbrev pub textFrom : Stage → ℕ → List ℕ → List ℕ → List ℕ → List ℕ
-textFrom Sets n words kept bytes = setsText (suc (length bytes)) words n (keptOf kept n) bytes
+textFrom Sets n words kept bytes = setsText (suc (length bytes)) words n (bodiesKept kept n) bytes
 textFrom Items n words kept bytes = itemsText (suc (length bytes)) words n bytes
 textFrom Ended n words kept bytes = []
 
@@ -228,7 +228,7 @@ module _ (words kept left later : List ℕ) (last : Bool) (n : ℕ) (room : leng
       record {
         same =
             rw (e, part-append left later 1 attributesSize there, drop-append-le setLength left later there, ← one)
-            (sets-enough (length (left ++ later)) (suc (length rest)) words (n + 1) (keptOf kept n ++ body) rest (omega arith) (omega arith)
+            (sets-enough (length (left ++ later)) (suc (length rest)) words (n + 1) (bodiesKept kept n ++ body) rest (omega arith) (omega arith)
             ∙ kept-alike kept body n room size (suc (length rest)) words rest);
         room = kept-room kept body n room size;
         few = rw (← one) (omega arith);
@@ -245,7 +245,7 @@ module _ (words kept left later : List ℕ) (last : Bool) (n : ℕ) (room : leng
       told-here (setTurn Bad n words kept left) _ refl (omega arith) refl (rw (w, append-nil))
   told-set-by Over e l =
       let w : nextSet (left ++ later) true ≡ Over = set-ahead later left last l (λ s. let z : _≡_ {A = ℕ} 0 1 = cc in omega arith) ∙ e in
-      let result = setUp (keptOf kept n) words in
+      let result = setUp (bodiesKept kept n) words in
       told-here (setTurn Over n words kept left) _ refl (omega arith) refl
       (rw w (ap (λ (l : List ℕ). setsLine n (result .answer .status) ++ l) (started (eqb (result .answer .status) 0) (result .table))))
 
@@ -340,8 +340,8 @@ ended : (stage : Stage) (n : ℕ) (words kept bytes : List ℕ) → stage ≡ En
 ended stage n words kept bytes e = rw e
 
 told-pieces :
-    (cs : List Piece) (p : Progress) (words kept left coming : List ℕ) → length kept ≡ bodiesRoom → p .count + length (left ++ coming) < 2 ^ 64
-    → Pieces p words kept left coming cs → atEnd p cs .stage ≡ Ended → textFrom (p .stage) (p .count) words kept (left ++ coming) ≡ join (map textOf cs)
+    (cs : List Call) (p : Progress) (words kept left coming : List ℕ) → length kept ≡ bodiesRoom → p .count + length (left ++ coming) < 2 ^ 64
+    → Calls p words kept left coming cs → atEnd p cs .stage ≡ Ended → textFrom (p .stage) (p .count) words kept (left ++ coming) ≡ join (map textOf cs)
 told-pieces [] p words kept left coming room few h e = ended (p .stage) (p .count) words kept (left ++ coming) e
 told-pieces (c ∷ cs) p words kept left coming room few h e =
     let piece = left ++ c .new in

@@ -16,7 +16,8 @@ use Rattle.steps.specs.SetUp.{setUp, SetUp}
 use Rattle.tape.specs.Text.{setsLine, badLine, endLine, Put}
 use Rattle.tape.specs.Tape.{itemSize, itemIn, attributesKind, attributesSize, Played, nextBody, nextSet, nextItem}
 use Rattle.tape.specs.Printout.{firstItem, itemLength, setLength}
-use Rattle.tape.specs.Pieces.{progress, mostBodies, keptIn, keptOf, mostCounted, oneMore, Turn, setUpTurn, setTurn, itemTurn, turnAt, Turned}
+use Rattle.tape.specs.Pieces.{progress, mostBodies, bodiesWith, bodiesKept, mostCounted, oneMore, Turn, setUpTurn, setTurn, itemTurn, turnAt}
+use Rattle.tape.specs.Turning.{Turned}
 use Rattle.tape.specs.declared.Next.{Next}
 use Rattle.tape.specs.declared.Next.the-variants.{Whole, Short, Bad, Over}
 use Rattle.tape.specs.declared.Stage.{Stage}
@@ -31,10 +32,10 @@ counted n h = rw (lt-ltb n mostCounted h)
 pub counted-full : (n : ℕ) → mostCounted ≤ n → n ≡ oneMore n
 counted-full n h = rw (le-ltb n mostCounted h)
 
-pub kept-first : (bodies body after : List ℕ) (n : ℕ) → n < mostBodies → after ≡ sets bodies (n * bodySize) body → after ≡ keptIn bodies n body
+pub kept-first : (bodies body after : List ℕ) (n : ℕ) → n < mostBodies → after ≡ sets bodies (n * bodySize) body → after ≡ bodiesWith bodies n body
 kept-first bodies body after n h e = rw (lt-ltb n mostBodies h) e
 
-pub kept-no-more : (bodies body : List ℕ) (n : ℕ) → mostBodies ≤ n → bodies ≡ keptIn bodies n body
+pub kept-no-more : (bodies body : List ℕ) (n : ℕ) → mostBodies ≤ n → bodies ≡ bodiesWith bodies n body
 kept-no-more bodies body n h = rw (le-ltb n mostBodies h)
 
 -- the part of bytes from their start
@@ -94,10 +95,10 @@ turned-line t line₀ r words bodies line len p e w b =
 pub turned-set-up :
     (n size status : ℕ) (bodies words₀ words line₀ line : List ℕ) (len : ℕ) (r : Progress) → size ≡ min n mostBodies * bodySize
     → SetUp (cut bodies 0 size) words₀ words status → Put line₀ 0 (setsLine n status) line len → status ≡ 0 → r ≡ progress Items 0 0 len true
-    → Turned (setUpTurn n (setUp (keptOf bodies n) words₀) bodies) line₀ r words bodies line
+    → Turned (setUpTurn n (setUp (bodiesKept bodies n) words₀) bodies) line₀ r words bodies line
 turned-set-up n size status bodies words₀ words line₀ line len r es s p z e =
-    let result = setUp (keptOf bodies n) words₀ in
-    let u : SetUp (keptOf bodies n) words₀ words status = rw (cut-front bodies size, es) at s in
+    let result = setUp (bodiesKept bodies n) words₀ in
+    let u : SetUp (bodiesKept bodies n) words₀ words status = rw (cut-front bodies size, es) at s in
     let ok : eqb (result .answer .status) 0 ≡ true = eq-eqb (result .answer .status) 0 (sym (u .status) ∙ z) in
     let q : Put line₀ 0 (setsLine n (result .answer .status)) line len = rw (u .status) at p in
     rw ok (turned-line _ line₀ r words bodies line len q e (u .table) refl)
@@ -105,10 +106,10 @@ turned-set-up n size status bodies words₀ words line₀ line len r es s p z e 
 pub turned-set-up-refused :
     (n size status : ℕ) (bodies words₀ words line₀ line : List ℕ) (len : ℕ) (r : Progress) → size ≡ min n mostBodies * bodySize
     → SetUp (cut bodies 0 size) words₀ words status → Put line₀ 0 (setsLine n status) line len → (status ≡ 0 → ⊥) → r ≡ progress Ended 0 0 len false
-    → Turned (setUpTurn n (setUp (keptOf bodies n) words₀) bodies) line₀ r words bodies line
+    → Turned (setUpTurn n (setUp (bodiesKept bodies n) words₀) bodies) line₀ r words bodies line
 turned-set-up-refused n size status bodies words₀ words line₀ line len r es s p z e =
-    let result = setUp (keptOf bodies n) words₀ in
-    let u : SetUp (keptOf bodies n) words₀ words status = rw (cut-front bodies size, es) at s in
+    let result = setUp (bodiesKept bodies n) words₀ in
+    let u : SetUp (bodiesKept bodies n) words₀ words status = rw (cut-front bodies size, es) at s in
     let bad : eqb (result .answer .status) 0 ≡ false = ne-eqb (result .answer .status) 0 (λ y. z (u .status ∙ y)) in
     let q : Put line₀ 0 (setsLine n (result .answer .status)) line len = rw (u .status) at p in
     rw bad (turned-line _ line₀ r words bodies line len q e (u .table) refl)

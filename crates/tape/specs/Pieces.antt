@@ -15,8 +15,8 @@ use Rattle.pages.specs.Bodies.{bodySize}
 use Rattle.commands.specs.Commands.{commandSize}
 use Rattle.steps.specs.Words.{Result}
 use Rattle.steps.specs.SetUp.{setUp}
-use Rattle.tape.specs.Text.{setsLine, endLine, badLine}
-use Rattle.tape.specs.Tape.{attributesSize, wordsAfter, lineFor, nextSet, nextItem}
+use Rattle.tape.specs.Text.{statusDigits, dwordDigits, setsLine, endLine, badLine}
+use Rattle.tape.specs.Tape.{attributesSize, answerSize, wordsAfter, lineFor, nextSet, nextItem}
 use Rattle.tape.specs.Printout.{firstItem, itemLength, setLength, printoutOn}
 use Rattle.tape.specs.declared.Next.{Next}
 use Rattle.tape.specs.declared.Next.the-variants.{Whole, Short, Bad, Over}
@@ -41,11 +41,11 @@ mostBodies = suc maxSets
 abbrev pub bodiesRoom : ℕ
 bodiesRoom = mostBodies * bodySize
 
-abbrev pub keptIn : List ℕ → ℕ → List ℕ → List ℕ
-keptIn bodies n body = if ltb n mostBodies then sets bodies (n * bodySize) body else bodies
+abbrev pub bodiesWith : List ℕ → ℕ → List ℕ → List ℕ
+bodiesWith bodies n body = if ltb n mostBodies then sets bodies (n * bodySize) body else bodies
 
-abbrev pub keptOf : List ℕ → ℕ → List ℕ
-keptOf bodies n = take (min n mostBodies * bodySize) bodies
+abbrev pub bodiesKept : List ℕ → ℕ → List ℕ
+bodiesKept bodies n = take (min n mostBodies * bodySize) bodies
 
 -- N is kept in 64 bits, and no file has so many items.
 abbrev pub mostCounted : ℕ
@@ -77,10 +77,10 @@ setUpTurn n result bodies =
     turn (if granted then Items else Ended) 0 0 granted (result .table) bodies (setsLine n (result .answer .status))
 
 abbrev pub setTurn : Next → ℕ → List ℕ → List ℕ → List ℕ → Turn
-setTurn Whole n words bodies left = turn Sets (oneMore n) setLength true words (keptIn bodies n (part left 1 attributesSize)) []
+setTurn Whole n words bodies left = turn Sets (oneMore n) setLength true words (bodiesWith bodies n (part left 1 attributesSize)) []
 setTurn Short n words bodies left = turn Sets n 0 false words bodies []
 setTurn Bad n words bodies left = turn Ended n 0 false words bodies (badLine 0)
-setTurn Over n words bodies left = setUpTurn n (setUp (keptOf bodies n) words) bodies
+setTurn Over n words bodies left = setUpTurn n (setUp (bodiesKept bodies n) words) bodies
 
 abbrev pub itemTurn : Next → ℕ → List ℕ → List ℕ → List ℕ → Turn
 itemTurn Whole n words bodies left =
@@ -94,20 +94,12 @@ turnAt Sets n words bodies left last = setTurn (nextSet left last) n words bodie
 turnAt Items n words bodies left last = itemTurn (nextItem left last) n words bodies left
 turnAt Ended n words bodies left last = turn Ended n 0 false words bodies []
 
--- what a turn's function leaves: its line lies at the start of an array
-pub record Turned (t : Turn) (line₀ : List ℕ) (r : Progress) (words bodies line : List ℕ) : Type 0 where
-  pub progress-is : r ≡ progress (t .stage) (t .count) (t .used) (length (t .text)) (t .going)
-  pub table : words ≡ t .words
-  pub kept : bodies ≡ t .bodies
-  pub text : line ≡ sets line₀ 0 (t .text)
-  pub within : length (t .text) ≤ length line
-
 -- ---- a call: turns one after another, each line after the one before, until the tape has ended, more bytes are wanted, or the
 -- longest line might have no room
 
--- the longest line: status, dword 0 and 4,096 bytes of data
+-- the longest line: status, dword 0, as much data as the answer buffer holds, and what stands between and after them
 abbrev pub lineRoom : ℕ
-lineRoom = 8207
+lineRoom = statusDigits + 1 + dwordDigits + 1 + 2 * answerSize + 1
 
 -- a call stops after so many turns too, so that it ends whatever it is lent
 abbrev pub mostTurns : ℕ
@@ -137,13 +129,6 @@ advanced piece last g =
     then stopped g
     else moved g (turnAt (g .at .stage) (g .at .count) (g .words) (g .bodies) (drop (g .at .used) piece) last)
 
--- for the function that takes one turn: how far it is lies within the piece and the buffer still
-pub record Advanced (g : Player) (piece : List ℕ) (last : Bool) (h : Player) : Type 0 where
-  pub is : h ≡ advanced piece last g
-  pub used-within : h .at .used ≤ length piece
-  pub text-within : h .at .len ≤ length (h .out)
-  pub same-room : length (h .out) ≡ length (g .out)
-
 unfoldable pub turns : ℕ → List ℕ → Bool → Player → Player
 turns zero piece last g = g
 turns (suc k) piece last g = if advanced piece last g .at .going then turns k piece last (advanced piece last g) else advanced piece last g
@@ -163,7 +148,7 @@ pub record PlayedOn (p : Progress) (words₀ bodies₀ out₀ piece : List ℕ) 
 
 -- a call that was made: the bytes that were read for it, and those of the file that are still to come; whether it was told that
 -- there are none; its buffer; and what it left
-pub record Piece : Type 0 where
+pub record Call : Type 0 where
   pub new : List ℕ
   pub later : List ℕ
   pub last : Bool
@@ -175,32 +160,37 @@ pub record Piece : Type 0 where
 
 -- Any pieces of a file: each call has what the one before left of its piece, and then the bytes that were read since. It is told
 -- `last` only where no byte is to come.
-abbrev pub Pieces : Progress → List ℕ → List ℕ → List ℕ → List ℕ → List Piece → Type 0
-Pieces p words bodies left coming [] = Unit {0}
-Pieces p words bodies left coming (c ∷ cs) =
+abbrev pub Calls : Progress → List ℕ → List ℕ → List ℕ → List ℕ → List Call → Type 0
+Calls p words bodies left coming [] = Unit {0}
+Calls p words bodies left coming (c ∷ cs) =
     (coming ≡ c .new ++ c .later) × (c .last ≡ true → c .later ≡ [])
     × PlayedOn p words bodies (c .before) (left ++ c .new) (c .last) (c .at) (c .words) (c .bodies) (c .out)
-    × Pieces (c .at) (c .words) (c .bodies) (drop (c .at .used) (left ++ c .new)) (c .later) cs
+    × Calls (c .at) (c .words) (c .bodies) (drop (c .at .used) (left ++ c .new)) (c .later) cs
 
 -- how far the tape is after them
-abbrev pub atEnd : Progress → List Piece → Progress
+abbrev pub atEnd : Progress → List Call → Progress
 atEnd p [] = p
 atEnd p (c ∷ cs) = atEnd (c .at) cs
 
 -- what they have written
-abbrev pub textOf : Piece → List ℕ
+abbrev pub textOf : Call → List ℕ
 textOf c = take (c .at .len) (c .out)
 
 -- "Output": whatever the pieces are in which a file is read, their texts, joined, are its printout once the tape has ended. (A file has
 -- fewer than 2 ^ 64 bytes. The bodies are lent as so many bytes, whatever they hold.) Proved as `printed` in proofs/Printed.antt.
 abbrev pub Printed : Type 0
 Printed =
-    (words bodies file : List ℕ) (cs : List Piece) → length bodies ≡ bodiesRoom → length file < 2 ^ 64
-    → Pieces atStart words bodies [] file cs → atEnd atStart cs .stage ≡ Ended → join (map textOf cs) ≡ printoutOn words file
+    (words bodies file : List ℕ) (cs : List Call) → length bodies ≡ bodiesRoom → length file < 2 ^ 64
+    → Calls atStart words bodies [] file cs → atEnd atStart cs .stage ≡ Ended → join (map textOf cs) ≡ printoutOn words file
 
 -- And the tape ends: a call with room for the longest line that is told `last`, or has as many bytes as the longest item, uses some of
--- them or writes some text, unless the tape has ended. So whoever writes what comes, reads on where there is more, and calls again comes
--- to the end of every file. Proved as `moves-on` in proofs/MovesOn.antt.
+-- them or comes to a later stage. So of such calls there are at most two more than the file has bytes. Proved as `moves-on` in
+-- proofs/MovesOn.antt.
+
+abbrev pub stagesLeft : Stage → ℕ
+stagesLeft Sets = 2
+stagesLeft Items = 1
+stagesLeft Ended = 0
 
 -- a kind, and a command with its data
 abbrev pub longestItem : ℕ
@@ -210,4 +200,4 @@ abbrev pub MovesOn : Type 0
 MovesOn =
     (p : Progress) (words₀ bodies₀ out₀ piece : List ℕ) (last : Bool) (r : Progress) (words bodies out : List ℕ)
     → PlayedOn p words₀ bodies₀ out₀ piece last r words bodies out → (p .stage ≡ Ended → ⊥) → lineRoom ≤ length out₀
-    → (last ≡ false → longestItem ≤ length piece) → 0 < r .used + r .len
+    → (last ≡ false → longestItem ≤ length piece) → stagesLeft (r .stage) < stagesLeft (p .stage) + r .used

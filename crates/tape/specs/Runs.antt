@@ -11,7 +11,7 @@ use Rattle.pages.specs.Bodies.{body}
 use Rattle.steps.specs.Order.{seven, Each}
 use Rattle.steps.specs.Edges.{commandOf}
 use Rattle.tape.specs.Text.{signs}
-use Rattle.tape.specs.Tape.{attributesKind, attributesSize, readsKind, tickKind}
+use Rattle.tape.specs.Tape.{commandKind, dataKind, readsKind, tickKind, attributesKind, attributesSize}
 use Rattle.tape.specs.Printout.{printout}
 
 -- ---- pieces of a file: a kind, then a body
@@ -29,10 +29,10 @@ readOf k = readsKind ∷ bytesOf 2 7 ++ bytesOf 2 k
 
 -- "01h command"; "02h command with data"
 abbrev bare : List ℕ → List ℕ
-bare bytes = 1 ∷ bytes
+bare bytes = commandKind ∷ bytes
 
 abbrev withData : List ℕ → List ℕ → List ℕ
-withData bytes given = 2 ∷ bytes ++ given
+withData bytes given = dataKind ∷ bytes ++ given
 
 -- Set Features 13h of set 7: "Enable with ENEV 4001h and reads threshold 10"
 abbrev enabling : List ℕ
@@ -77,6 +77,8 @@ runs =
     ∷ run (setSeven ++ ticked 20 ++ 0x0A ∷ []) "sets 1 0000\n0000 00000000\nbad 1\n"
     -- "a late 07h"
     ∷ run (setSeven ++ ticked 20 ++ setSeven) "sets 1 0000\n0000 00000000\nbad 1\n"
+    -- a late 07h that is cut is late
+    ∷ run (setSeven ++ ticked 20 ++ take attributesSize setSeven) "sets 1 0000\n0000 00000000\nbad 1\n"
     -- "or a cut body"
     ∷ run (setSeven ++ take 4 (ticked 20)) "sets 1 0000\nbad 0\n"
     ∷ []

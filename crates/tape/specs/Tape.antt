@@ -18,12 +18,21 @@ use Rattle.tape.specs.Text.{itemLine}
 use Rattle.tape.specs.declared.Next.{Next}
 use Rattle.tape.specs.declared.Next.the-variants.{Whole, Short, Bad, Over}
 
--- kinds of items: 01h and 02h, those below reads, are commands; 05h, the excursion, is the one that is left
+-- kinds of items: "01h command", "02h command with data", "03h reads and 04h writes", "05h excursion", "06h tick"
+abbrev pub commandKind : ℕ
+commandKind = 1
+
+abbrev pub dataKind : ℕ
+dataKind = 2
+
 abbrev pub readsKind : ℕ
 readsKind = 3
 
 abbrev pub writesKind : ℕ
 writesKind = 4
+
+abbrev pub excursionKind : ℕ
+excursionKind = 5
 
 abbrev pub tickKind : ℕ
 tickKind = 6
@@ -50,7 +59,8 @@ answerSize = 4096
 abbrev pub mediaItem : ℕ → ℕ → ℕ → Item
 mediaItem kind set count = if eqb kind readsKind then reads set count else if eqb kind writesKind then writes set count else excursion set
 
--- the item of a kind and a body that is as long as it should be; what follows a command's own bytes is its data
+-- the item of a kind and a body that is as long as it should be: the kinds below reads are commands, and what follows a command's own
+-- bytes is its data
 abbrev pub itemBy : ℕ → List ℕ → Item
 itemBy kind body =
     if ltb kind readsKind then command (take commandSize body) (drop commandSize body) answerSize

@@ -24,16 +24,16 @@ newline = 10
 
 -- ---- numbers
 
--- the sign '0', and what is added to 10 to give the sign 'A'
+-- the sign of 0, and what is added to 10 to give that of A
 abbrev pub zeroSign : ℕ
 zeroSign = 48
 
-abbrev pub letterSign : ℕ
-letterSign = 55
+abbrev pub letterBase : ℕ
+letterBase = 55
 
 -- a digit below 16, in upper case
 abbrev pub digitOf : ℕ → ℕ
-digitOf d = if ltb d 10 then zeroSign + d else letterSign + d
+digitOf d = if ltb d 10 then zeroSign + d else letterBase + d
 
 -- the last digits of a number, as many as `width`, the highest first
 abbrev pub digitsOf : ℕ → ℕ → ℕ → List ℕ

@@ -8,7 +8,8 @@ ghost use Rattle.steps.specs.SetUp.{setUp};
 ghost use Rattle.tape.specs.Text.{Put};
 ghost use Rattle.tape.specs.Tape.{itemSize, attributesSize, nextSet, nextItem};
 ghost use Rattle.tape.specs.Printout.{itemLength, setLength};
-ghost use Rattle.tape.specs.Pieces.{progress, atStart, mostBodies, bodiesRoom, keptIn, keptOf, oneMore, setUpTurn, setTurn, itemTurn, turnAt, Turned, player, Advanced, PlayedOn};
+ghost use Rattle.tape.specs.Pieces.{progress, atStart, mostBodies, bodiesRoom, bodiesWith, bodiesKept, oneMore, setUpTurn, setTurn, itemTurn, turnAt, player, PlayedOn};
+ghost use Rattle.tape.specs.Turning.{Turned, Advanced};
 ghost use Rattle.tape.specs.declared.Next.the-variants.{Whole};
 use crate::Next;
 use crate::Progress;
@@ -63,7 +64,7 @@ fn one_more(n: u64) -> u64
 // A set's body, kept after those before it if there is room.
 fn keep(bodies: &mut [u8; BODIES], n: u64, body: &[u8])
     requires { ⌜ length (now body) ≡ attributesSize ⌝ }
-    ensures { λ _. ⌜ now (bodies .exit) ≡ keptIn (now (bodies .entry)) n (now (body .entry)) ⌝ }
+    ensures { λ _. ⌜ now (bodies .exit) ≡ bodiesWith (now (bodies .entry)) n (now (body .entry)) ⌝ }
 {
     if n < MOST as u64 {
         put_text(bodies, n as usize * BODY, body);
@@ -83,7 +84,7 @@ fn kept_len(n: u64) -> usize
 
 fn set_up_turn(table: &mut [u64], bodies: &[u8], line: &mut [u8; LINE], n: u64) -> Progress
     requires { ⌜ length (now bodies) ≡ bodiesRoom ⌝ }
-    ensures { λ r. ⌜ Turned (setUpTurn n (setUp (keptOf (now (bodies .entry)) n) (now (table .entry))) (now (bodies .entry))) (now (line .entry)) r (now (table .exit)) (now (bodies .entry)) (now (line .exit)) ⌝ }
+    ensures { λ r. ⌜ Turned (setUpTurn n (setUp (bodiesKept (now (bodies .entry)) n) (now (table .entry))) (now (bodies .entry))) (now (line .entry)) r (now (table .exit)) (now (bodies .entry)) (now (line .exit)) ⌝ }
 {
     let size = kept_len(n);
     let status = set_up(table, &bodies[0..size]);

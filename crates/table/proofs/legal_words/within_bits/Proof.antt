@@ -1,4 +1,5 @@
 use borrow.Author.Needs.{needs}
+use Rattle.record.proofs.EventBits.{masked}
 use Rattle.table.proofs.legal_words.within_bits.Statement.{statement}
 use Rattle.table.proofs.legal_words.within_bits.Tie as tie
 
@@ -7,4 +8,4 @@ within-bits-spec =
     tie.close
     (tie.spec
     (λ c κs. search needs) (λ c κs. search needs)
-    (λ c. simp (c .bits-of .ensures .0, c .before .events-in .ensures)))
+    (λ c. simp (c .bits-of .ensures .0, c .before .events-in .ensures, masked)))

@@ -7,7 +7,8 @@ pub keep-spec : {M : Type 1} → statement M
 keep-spec =
     tie.close
     (tie.spec
-    (λ c. search needs)
-    (λ c κs. search needs)
-    (λ c. let s = c .before .before .before .before in kept-first (s .args .bodies .now) (s .args .body .now) _ _ (c .before .before .if1 .taken) (c .put-text .ensures .bytes))
+    (λ c. search needs) (λ c κs. search needs)
+    (λ c.
+    let s = c .before .before .before .before in
+    kept-first (s .args .bodies .now) (s .args .body .now) _ _ (c .before .before .if1 .taken) (c .put-text .ensures .bytes))
     (λ c. let s = c .before .before in kept-no-more (s .args .bodies .now) (s .args .body .now) _ (c .if1 .left)))

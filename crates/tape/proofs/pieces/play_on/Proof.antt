@@ -34,13 +34,21 @@ play-on-spec =
     (λ c κs. search needs)
     (λ c. record { table-length = refl; out-length = refl; used = rw (c .made .ensures) (omega arith); len = rw (c .made .ensures) (omega arith); left = refl })
     (λ c κs. let i = c .before .before .before .before .before .loop .inv in (i .used, i .len))
-    (λ c. search needs)
-    (λ c. search needs)
-    (λ c. let l = c .before .before .before .before .before .before .before .before .before .before .before .loop in let a = c .before .before .before .before .before .advance .ensures in let s = c .before .before .before .before .before .before .before .before .before .before .before .before .before .before .before .before in
+    (λ c. search needs) (λ c. search needs)
+    (λ c.
+    let l = c .before .before .before .before .before .before .before .before .before .before .before .loop in
+    let a = c .before .before .before .before .before .advance .ensures in
+    let s = c .before .before .before .before .before .before .before .before .before .before .before .before .before .before .before .before in
     record { table-length = search needs; out-length = search needs; used = a .used-within; len = a .text-within; left = turns-again _ (s .args .piece .now) (s .args .last) _ _ _ (c .before .before .before .before .before .before .before .before .before .before .loop-test .taken) a (c .if1 .taken) (l .inv .left) })
     (λ c. search needs)
-    (λ c. let l = c .before .before .before .before .before .before .before .before .before .before .before .loop in let a = c .before .before .before .before .before .advance .ensures in let s = c .before .before .before .before .before .before .before .before .before .before .before .before .before .before .before .before in
+    (λ c.
+    let l = c .before .before .before .before .before .before .before .before .before .before .before .loop in
+    let a = c .before .before .before .before .before .advance .ensures in
+    let s = c .before .before .before .before .before .before .before .before .before .before .before .before .before .before .before .before in
     record { table-length = search needs; out-length = search needs; used = a .used-within; len = a .text-within; left = turns-stop _ (s .args .piece .now) (s .args .last) _ _ _ (c .before .before .before .before .before .before .before .before .before .before .loop-test .taken) a (c .if1 .left) (l .inv .left) })
     (λ c. c .before .loop .inv .table-length)
     (λ c. c .before .loop .inv .out-length)
-    (λ c. let i = c .before .loop .inv in let s = c .before .before .before .before .before .before in played-on _ (s .args .p) _ _ _ _ (s .args .last) _ _ _ _ (c .loop-test .left) (i .used) (i .len) (rw (c .before .before .made .ensures) at (i .left))))
+    (λ c.
+    let i = c .before .loop .inv in
+    let s = c .before .before .before .before .before .before in
+    played-on _ (s .args .p) _ _ _ _ (s .args .last) _ _ _ _ (c .loop-test .left) (i .used) (i .len) (rw (c .before .before .made .ensures) at (i .left))))
