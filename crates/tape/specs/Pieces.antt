@@ -41,6 +41,7 @@ mostBodies = suc maxSets
 abbrev pub bodiesRoom : ℕ
 bodiesRoom = mostBodies * bodySize
 
+-- a body put after the n before it, if there is room; and what is kept of n
 abbrev pub bodiesWith : List ℕ → ℕ → List ℕ → List ℕ
 bodiesWith bodies n body = if ltb n mostBodies then sets bodies (n * bodySize) body else bodies
 
@@ -76,12 +77,14 @@ setUpTurn n result bodies =
     let granted = eqb (result .answer .status) 0 in
     turn (if granted then Items else Ended) 0 0 granted (result .table) bodies (setsLine n (result .answer .status))
 
+-- "Kinds 07h come first": a body is kept, more bytes are wanted, "a cut 07h prints "bad 0" alone", or the sets are set up
 abbrev pub setTurn : Next → ℕ → List ℕ → List ℕ → List ℕ → Turn
 setTurn Whole n words bodies left = turn Sets (oneMore n) setLength true words (bodiesWith bodies n (part left 1 attributesSize)) []
 setTurn Short n words bodies left = turn Sets n 0 false words bodies []
 setTurn Bad n words bodies left = turn Ended n 0 false words bodies (badLine 0)
 setTurn Over n words bodies left = setUpTurn n (setUp (bodiesKept bodies n) words) bodies
 
+-- an item is played, more bytes are wanted, "bad N", or "end N"
 abbrev pub itemTurn : Next → ℕ → List ℕ → List ℕ → List ℕ → Turn
 itemTurn Whole n words bodies left =
     turn Items (oneMore n) (itemLength left) true (wordsAfter words (firstItem left)) bodies (lineFor words (firstItem left))
@@ -89,6 +92,7 @@ itemTurn Short n words bodies left = turn Items n 0 false words bodies []
 itemTurn Bad n words bodies left = turn Ended n 0 false words bodies (badLine n)
 itemTurn Over n words bodies left = turn Ended n 0 false words bodies (endLine n)
 
+-- by where the tape is; one that has ended stays so
 abbrev pub turnAt : Stage → ℕ → List ℕ → List ℕ → List ℕ → Bool → Turn
 turnAt Sets n words bodies left last = setTurn (nextSet left last) n words bodies left
 turnAt Items n words bodies left last = itemTurn (nextItem left last) n words bodies left
@@ -115,20 +119,24 @@ pub record Player : Type 0 where
 abbrev pub player : Progress → List ℕ → List ℕ → List ℕ → Player
 player at words bodies out = record { at = at; words = words; bodies = bodies; out = out }
 
+-- for want of room
 abbrev pub stopped : Player → Player
 stopped g = player (progress (g .at .stage) (g .at .count) (g .at .used) (g .at .len) false) (g .words) (g .bodies) (g .out)
 
+-- by a turn, whose line is put after the text so far
 abbrev pub moved : Player → Turn → Player
 moved g t =
     player (progress (t .stage) (t .count) (g .at .used + t .used) (g .at .len + length (t .text)) (t .going)) (t .words) (t .bodies)
     (sets (g .out) (g .at .len) (t .text))
 
+-- one turn more, if the longest line has room
 unfoldable pub advanced : List ℕ → Bool → Player → Player
 advanced piece last g =
     if ltb (length (g .out) - g .at .len) lineRoom
     then stopped g
     else moved g (turnAt (g .at .stage) (g .at .count) (g .words) (g .bodies) (drop (g .at .used) piece) last)
 
+-- at most k turns
 unfoldable pub turns : ℕ → List ℕ → Bool → Player → Player
 turns zero piece last g = g
 turns (suc k) piece last g = if advanced piece last g .at .going then turns k piece last (advanced piece last g) else advanced piece last g
