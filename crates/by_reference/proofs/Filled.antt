@@ -19,9 +19,8 @@ use Rattle.table.specs.Table.{maxSets}
 use Rattle.pages.specs.Bodies.{bodySize, body, attributesIn}
 use Rattle.pages.proofs.Back.{body-length}
 use Rattle.steps.specs.Words.{Result}
-use Rattle.steps.specs.SetUp.{bodies, setUp, SetUp}
-use Rattle.steps.proofs.NewSets.{refused-many}
-use Rattle.by_reference.specs.Buffer.{withBody, firstBodies}
+use Rattle.steps.specs.SetUp.{bodies, withBody, firstBodies, setUp, SetUp}
+use Rattle.steps.proofs.NewSets.{refused-many, first-more}
 use Rattle.by_reference.specs.Lists.{bodiesOf}
 
 -- a run stored at the start of what lies from a place on
@@ -44,12 +43,12 @@ module _ (bytes : List ℕ) (i : ℕ) (a : Attributes) where
   pub body-put :
       (page r : List ℕ) → i < bodies bytes → page ≡ body a
       → r ≡ sets (take (length bytes - i * bodySize) (drop (i * bodySize) bytes)) 0 (padded page 0 bodySize)
-      → putMid (i * bodySize) (length bytes - i * bodySize) bytes r ≡ withBody bytes i a
+      → putMid (i * bodySize) (length bytes - i * bodySize) bytes r ≡ withBody bytes i (body a)
   body-put page r h e er =
       stored-page bytes page r (i * bodySize) bodySize (ap length e ∙ body-length a) (omega arith) er
       ∙ rw (e, lt-ltb i (bodies bytes) h)
 
-  pub body-left : bodies bytes ≤ i → bytes ≡ withBody bytes i a
+  pub body-left : bodies bytes ≤ i → bytes ≡ withBody bytes i (body a)
   body-left h = rw (le-ltb i (bodies bytes) h)
 
 -- ---- the bodies of a list
@@ -95,12 +94,10 @@ module _ (room : ℕ) (list : List Attributes) where
 
     put : i < bodies bytes → Laid (sets bytes (i * bodySize) (body a))
     put l =
-        let near : i * bodySize + length (body a) ≤ length bytes = rw (body-length a) (omega arith) in
         let here : min i (bodies bytes) ≡ i = omega arith in
         let next : min (suc i) (bodies bytes) ≡ suc i = omega arith in
-        let front : length (take (i * bodySize) bytes ++ body a) ≡ suc i * bodySize = length-append (take (i * bodySize) bytes) (body a) ∙ rw (body-length a, length-take-le (i * bodySize) bytes (omega arith)) (omega arith) in
-        rw (length-sets bytes (i * bodySize) (body a), next, sets-eq (body a) bytes (i * bodySize) near)
-        (take-at (take (i * bodySize) bytes ++ body a) _ (suc i * bodySize) front ∙ sym (bodies-suc list i h ∙ ap (λ (z : List ℕ). z ++ body a) (sym (rw here at (g .laid)))))
+        first-more bytes (body a) i (body-length a) l
+        ∙ rw (length-sets bytes (i * bodySize) (body a), next) (sym (bodies-suc list i h ∙ ap (λ (z : List ℕ). z ++ body a) (sym (ap (λ (k : ℕ). bodiesOf (take k list)) here) ∙ sym (g .laid))))
 
     kept : bodies bytes ≤ i → Laid bytes
     kept l = let same : min (suc i) (bodies bytes) ≡ min i (bodies bytes) = omega arith in rw same (g .laid)
@@ -109,7 +106,7 @@ module _ (room : ℕ) (list : List Attributes) where
     laid-by true e = put (ltb-true i (bodies bytes) e)
     laid-by false e = kept (ltb-false i (bodies bytes) e)
 
-    pub filled-more : (after : List ℕ) → length after ≡ length bytes → after ≡ withBody bytes i a → Filled room list (i + 1) after
+    pub filled-more : (after : List ℕ) → length after ≡ length bytes → after ≡ withBody bytes i (body a) → Filled room list (i + 1) after
     filled-more after l e = record { long = l ∙ g .long; within = omega arith; laid = rw (add-one, e) (laid-by (ltb i (bodies bytes)) refl) }
 
 -- ---- more sets than a table may have are refused, however many more

@@ -1,3 +1,2 @@
-pub mod Buffer
 pub mod Lists
 pub mod Records

@@ -1,7 +1,7 @@
 // Set-up takes a lent list of attribute records.
 ghost use mathlib.Core.Path.{_≡_};
-ghost use Rattle.steps.specs.SetUp.{SetUp};
-ghost use Rattle.by_reference.specs.Buffer.{withBody, firstBodies};
+ghost use Rattle.pages.specs.Bodies.{body};
+ghost use Rattle.steps.specs.SetUp.{withBody, firstBodies, SetUp};
 ghost use Rattle.by_reference.specs.Lists.{bodiesOf};
 use octets::copy_part;
 use octets::least;
@@ -15,7 +15,7 @@ const ROOM: usize = (MAX_SETS + 1) * BODY;
 
 // A body in the i-th place, where there is room for it.
 fn put_body(bytes: &mut [u8], i: usize, a: Attributes)
-    ensures { λ _. ⌜ now (bytes .exit) ≡ withBody (now (bytes .entry)) i a ⌝ }
+    ensures { λ _. ⌜ now (bytes .exit) ≡ withBody (now (bytes .entry)) i (body a) ⌝ }
 {
     if i < bytes.len() / BODY {
         let body = body_of(a);

@@ -1,8 +1,8 @@
 -- Set-up: what a status of 0 tells, and that what set-up leaves is a legal table of the new sets.
 use mathlib.Core.Path.{_≡_, refl, sym, ap, _∙_}
 use mathlib.Core.Bool.{Bool, true, false, _&&_, and-true, and-false}
-use mathlib.Core.List.{List, [], _∷_, map}
-use Prim.Native.Nat.{ℕ, zero, suc, _+_, _-_, _*_, _≤_, _<_}
+use mathlib.Core.List.{List, [], _∷_, _++_, map}
+use Prim.Native.Nat.{ℕ, zero, suc, _+_, _-_, _*_, _≤_, _<_, min}
 use native.Mathlib.Omega.{arith}
 use native.Mathlib.Nat.{sub-zero}
 use native.Mathlib.Numerals.{add-one}
@@ -12,6 +12,7 @@ use lib.ListN.{length}
 use lib.Seq.{sets, length-sets}
 use Rattle.octets.specs.Choice.{if_then_else_}
 use Rattle.octets.proofs.JoinedTests.{both}
+use Rattle.octets.proofs.Runs.{take-through}
 use Rattle.record.specs.declared.Attributes.{Attributes}
 use Rattle.record.specs.declared.Record.{Record}
 use Rattle.record.specs.Legal.{inRange, legalAttributes, legalRecord}
@@ -24,7 +25,7 @@ use Rattle.table.proofs.Written.{Fitting, written-back, written-legal}
 use Rattle.pages.specs.Bodies.{bodySize, attributesIn}
 use Rattle.replies.specs.Answers.{granted, refused}
 use Rattle.steps.specs.Words.{Result}
-use Rattle.steps.specs.SetUp.{newRecord, attributesFrom, bodies, newSets, newCard, setUpLines, setUpStatus, newTable, setUp, SetUp}
+use Rattle.steps.specs.SetUp.{newRecord, attributesFrom, bodies, firstBodies, newSets, newCard, setUpLines, setUpStatus, newTable, setUp, SetUp}
 
 -- ---- the status
 
@@ -110,3 +111,13 @@ status-many bytes words h = rw (lt-leb (bodies bytes) maxSets h, and-false)
 pub refused-many : (bytes ws : List ℕ) → maxSets < bodies bytes → setUp bytes ws ≡ record { table = ws; answer = refused badSetUp }
 unfolding setUp
 refused-many bytes ws h = rw (status-many bytes (length ws) h)
+
+-- ---- bodies that are kept until set-up: one more, where there is room
+
+pub first-more :
+    (bytes body : List ℕ) (i : ℕ) → length body ≡ bodySize → i < bodies bytes
+    → firstBodies (sets bytes (i * bodySize) body) (suc i) ≡ firstBodies bytes i ++ body
+first-more bytes body i e h =
+    let after : min (suc i) (bodies bytes) * bodySize ≡ i * bodySize + bodySize = omega arith in
+    let before : min i (bodies bytes) * bodySize ≡ i * bodySize = omega arith in
+    rw (length-sets bytes (i * bodySize) body, after, before) (take-through body bytes (i * bodySize) bodySize e (omega arith))

@@ -2,9 +2,10 @@
 use mathlib.Core.Path.{_≡_}
 use mathlib.Core.Bool.{false, not}
 use mathlib.Core.List.{List, [], _∷_, map}
-use Prim.Native.Nat.{ℕ, zero, suc, _+_, _/_, _%_}
+use Prim.Native.Nat.{ℕ, zero, suc, _+_, _*_, _/_, _%_, min}
 use lib.Dec.{ltb, eqb}
-use lib.ListN.{length}
+use lib.ListN.{length, take}
+use lib.Seq.{sets}
 use Rattle.octets.specs.Choice.{if_then_else_}
 use Rattle.record.specs.declared.Window.the-variants.{Off}
 use Rattle.record.specs.declared.Attributes.{Attributes}
@@ -40,6 +41,14 @@ attributesFrom bytes at (suc n) = attributesIn bytes at ∷ attributesFrom bytes
 
 abbrev pub bodies : List ℕ → ℕ
 bodies bytes = length bytes / bodySize
+
+-- bodies that are kept until set-up, in bytes with room for some: a body put in the i-th place, where there is room for it; and the
+-- first n, or all that there are
+abbrev pub withBody : List ℕ → ℕ → List ℕ → List ℕ
+withBody bytes i body = if ltb i (bodies bytes) then sets bytes (i * bodySize) body else bytes
+
+abbrev pub firstBodies : List ℕ → ℕ → List ℕ
+firstBodies bytes n = take (min n (bodies bytes) * bodySize) bytes
 
 -- the sets that the bodies make
 unfoldable pub newSets : List ℕ → List Record

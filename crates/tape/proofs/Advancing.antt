@@ -15,7 +15,7 @@ use Rattle.steps.specs.SetUp.{setUp}
 use Rattle.tape.specs.Text.{Put}
 use Rattle.tape.specs.Tape.{nextSet, nextItem}
 use Rattle.tape.specs.Printout.{itemLength, setLength}
-use Rattle.tape.specs.Pieces.{progress, bodiesKept, Turn, setUpTurn, setTurn, itemTurn, turnAt, lineRoom, Player, player, stopped, moved, advanced, turns, anew, PlayedOn, mostTurns}
+use Rattle.tape.specs.Pieces.{progress, Turn, setUpTurn, setTurn, itemTurn, turnAt, lineRoom, Player, player, stopped, moved, advanced, turns, anew, PlayedOn, mostTurns}
 use Rattle.tape.specs.Turning.{Turned, Advanced}
 use Rattle.tape.specs.declared.Next.{Next}
 use Rattle.tape.specs.declared.Next.the-variants.{Whole, Short, Bad, Over}

@@ -9,14 +9,15 @@ use lib.Dec.{ltb, leb, eqb, lit≤}
 use lib.ListN.{length, drop}
 use Rattle.octets.specs.Choice.{if_then_else_}
 use Rattle.tape.specs.Tape.{itemSize, attributesKind, attributesSize, nextBody, nextSet, nextItem}
-use Rattle.steps.specs.SetUp.{setUp}
-use Rattle.tape.specs.Pieces.{bodiesKept, Turn, setTurn, itemTurn, turnAt, lineRoom, Player, player, stopped, moved, advanced, turns, mostTurns, anew, PlayedOn, stagesLeft, longestItem, MovesOn}
+use Rattle.steps.specs.SetUp.{firstBodies, setUp}
+use Rattle.tape.specs.Pieces.{Turn, setTurn, itemTurn, turnAt, lineRoom, Player, player, stopped, moved, advanced, turns, mostTurns, anew, PlayedOn, stagesLeft, longestItem, MovesOn}
 use Rattle.tape.specs.declared.Next.{Next}
 use Rattle.tape.specs.declared.Next.the-variants.{Whole, Short, Bad, Over}
 use Rattle.tape.specs.declared.Stage.{Stage}
 use Rattle.tape.specs.declared.Stage.the-variants.{Sets, Items, Ended}
 use Rattle.tape.specs.declared.Progress.{Progress}
 use Rattle.tape.proofs.Playing.{size-none}
+use Rattle.tape.proofs.Turns.{bad-apart, over-apart}
 
 -- ---- more bytes are wanted only where the file may have more, and what is there is shorter than an item
 
@@ -52,12 +53,6 @@ size-most (suc (suc (suc (suc (suc zero))))) = lit≤ tt
 size-most (suc (suc (suc (suc (suc (suc zero)))))) = lit≤ tt
 size-most (suc (suc (suc (suc (suc (suc (suc k))))))) = omega (arith, size-none (suc (suc (suc (suc (suc (suc (suc k))))))) (omega arith))
 
-over-apart : Over ≡ Short → ⊥
-over-apart e = let z : _≡_ {A = ℕ} 0 1 = cc in omega arith
-
-bad-apart : Bad ≡ Short → ⊥
-bad-apart e = let z : _≡_ {A = ℕ} 0 1 = cc in omega arith
-
 short-set : (left : List ℕ) (last : Bool) → nextSet left last ≡ Short → Wanted (length left) last longestItem
 short-set [] last e = short-none last longestItem (lit≤ tt) e
 short-set (k ∷ ks) last e =
@@ -88,13 +83,13 @@ module _ (n : ℕ) (words bodies left : List ℕ) where
   set-moves Whole h = omega arith
   set-moves Short h = absurd (h refl)
   set-moves Bad h = omega arith
-  set-moves Over h = omega (arith, items-or-ended (eqb (setUp (bodiesKept bodies n) words .answer .status) 0))
+  set-moves Over h = omega (arith, items-or-ended (eqb (setUp (firstBodies bodies n) words .answer .status) 0))
 
   set-onward : (next : Next) → Onward Sets (setTurn next n words bodies left)
   set-onward Whole = omega arith
   set-onward Short = omega arith
   set-onward Bad = omega arith
-  set-onward Over = omega (arith, items-or-ended (eqb (setUp (bodiesKept bodies n) words .answer .status) 0))
+  set-onward Over = omega (arith, items-or-ended (eqb (setUp (firstBodies bodies n) words .answer .status) 0))
 
   item-moves : (next : Next) → (next ≡ Short → ⊥) → Moves Items (itemTurn next n words bodies left)
   item-moves Whole h = omega arith

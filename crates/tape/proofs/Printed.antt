@@ -6,6 +6,7 @@ use mathlib.Core.List.{List, [], _∷_, _++_, map, append-nil, append-assoc}
 use Prim.Native.Nat.{ℕ, zero, suc, _+_, _*_, _-_, _/_, _^_, _≤_, _<_, min}
 use native.Mathlib.Omega.{arith}
 use native.Mathlib.Nat.{zero-add}
+use native.Mathlib.Numerals.{add-one}
 use borrow.Author.Tests.{lt-ltb, le-ltb, le-leb, leb-true, ltb-true, ltb-false}
 use lib.Dec.{ltb, leb, eqb}
 use lib.ListN.{length, getD, take, drop, length-append, length-drop, List·getD-append}
@@ -17,18 +18,18 @@ use Rattle.octets.proofs.Runs.{part-same, part-append, sets-join}
 use Rattle.table.specs.Table.{maxSets}
 use Rattle.pages.specs.Bodies.{bodySize}
 use Rattle.steps.specs.Words.{Result}
-use Rattle.steps.specs.SetUp.{bodies, setUp}
-use Rattle.steps.proofs.NewSets.{refused-many}
+use Rattle.steps.specs.SetUp.{bodies, withBody, firstBodies, setUp}
+use Rattle.steps.proofs.NewSets.{refused-many, first-more}
 use Rattle.tape.specs.Text.{setsLine, badLine, endLine}
 use Rattle.tape.specs.Tape.{itemSize, attributesKind, attributesSize, wordsAfter, lineFor, nextBody, nextSet, nextItem}
 use Rattle.tape.specs.Printout.{byNext, firstItem, itemLength, itemsText, setLength, setUpText, setsText, printoutOn}
-use Rattle.tape.specs.Pieces.{progress, atStart, mostBodies, bodiesRoom, bodiesWith, bodiesKept, mostCounted, oneMore, Turn, setUpTurn, setTurn, itemTurn, turnAt, lineRoom, Player, player, stopped, moved, advanced, turns, mostTurns, anew, PlayedOn, Call, Calls, atEnd, textOf, Printed}
+use Rattle.tape.specs.Pieces.{progress, atStart, mostBodies, bodiesRoom, mostCounted, oneMore, Turn, setUpTurn, setTurn, itemTurn, turnAt, lineRoom, Player, player, stopped, moved, advanced, turns, mostTurns, anew, PlayedOn, Call, Calls, atEnd, textOf, Printed}
 use Rattle.tape.specs.declared.Next.{Next}
 use Rattle.tape.specs.declared.Next.the-variants.{Whole, Short, Bad, Over}
 use Rattle.tape.specs.declared.Stage.{Stage}
 use Rattle.tape.specs.declared.Stage.the-variants.{Sets, Items, Ended}
 use Rattle.tape.specs.declared.Progress.{Progress}
-use Rattle.tape.proofs.Turns.{counted, whole-set-there, whole-item-there}
+use Rattle.tape.proofs.Turns.{counted, whole-apart, bad-apart, over-apart, whole-set-there, whole-item-there}
 
 -- ---- what stands next is told by the bytes that are there, unless more are wanted
 
@@ -109,48 +110,38 @@ many-alike (suc k) words n xs ys bytes h f =
     let alike : setUp xs words ≡ setUp ys words = refused-many xs words (many-bodies xs h) ∙ sym (refused-many ys words (many-bodies ys f)) in
     rw (more, alike)
 
--- bytes put after those before
-take-sets : (l vs : List ℕ) (at n : ℕ) → length vs ≡ n → at + n ≤ length l → take (at + n) (sets l at vs) ≡ take at l ++ vs
-take-sets l vs at n e h =
-    let long : length (take at l ++ vs) ≡ at + n = length-append (take at l) vs ∙ omega (arith, length-take-le at l (omega arith)) in
-    rw (sets-eq vs l at (omega arith)) (take-at (take at l ++ vs) (drop (at + length vs) l) (at + n) long)
-
 module _ (kept body : List ℕ) (n : ℕ) (room : length kept ≡ bodiesRoom) (size : length body ≡ bodySize) where
-  kept-more : n < mostBodies → bodiesKept (sets kept (n * bodySize) body) (n + 1) ≡ bodiesKept kept n ++ body
-  kept-more h =
-      let after : min (n + 1) mostBodies * bodySize ≡ n * bodySize + bodySize = omega arith in
-      let before : min n mostBodies * bodySize ≡ n * bodySize = omega arith in
-      rw (after, before) (take-sets kept body (n * bodySize) bodySize size (omega arith))
-
   -- whether the body is kept or not, set-up says the same
   kept-alike-by :
-      (k : ℕ) (words bytes : List ℕ) (b : Bool) → ltb n mostBodies ≡ b
-      → setsText k words (n + 1) (bodiesKept kept n ++ body) bytes ≡ setsText k words (n + 1) (bodiesKept (if b then sets kept (n * bodySize) body else kept) (n + 1)) bytes
-  kept-alike-by k words bytes true e = ap (λ (l : List ℕ). setsText k words (n + 1) l bytes) (sym (kept-more (ltb-true n mostBodies e)))
+      (k : ℕ) (words bytes : List ℕ) (b : Bool) → ltb n (bodies kept) ≡ b
+      → setsText k words (n + 1) (firstBodies kept n ++ body) bytes ≡ setsText k words (n + 1) (firstBodies (if b then sets kept (n * bodySize) body else kept) (n + 1)) bytes
+  kept-alike-by k words bytes true e =
+      let more : firstBodies (sets kept (n * bodySize) body) (n + 1) ≡ firstBodies kept n ++ body = rw add-one (first-more kept body n size (ltb-true n (bodies kept) e)) in
+      ap (λ (l : List ℕ). setsText k words (n + 1) l bytes) (sym more)
   kept-alike-by k words bytes false e =
-      let over : mostBodies ≤ n = ltb-false n mostBodies e in
-      let all : min n mostBodies * bodySize ≡ bodiesRoom = omega arith in
-      let all′ : min (n + 1) mostBodies * bodySize ≡ bodiesRoom = omega arith in
+      let over : mostBodies ≤ n = omega (arith, ltb-false n (bodies kept) e) in
+      let all : min n (bodies kept) * bodySize ≡ bodiesRoom = omega arith in
+      let all′ : min (n + 1) (bodies kept) * bodySize ≡ bodiesRoom = omega arith in
       let long : length (take bodiesRoom kept) ≡ bodiesRoom = length-take-le bodiesRoom kept (omega arith) in
       rw (all, all′)
       (many-alike k words (n + 1) (take bodiesRoom kept ++ body) (take bodiesRoom kept) bytes (omega (arith, length-append (take bodiesRoom kept) body)) (omega arith))
 
   kept-alike :
       (k : ℕ) (words bytes : List ℕ)
-      → setsText k words (n + 1) (bodiesKept kept n ++ body) bytes ≡ setsText k words (n + 1) (bodiesKept (bodiesWith kept n body) (n + 1)) bytes
-  kept-alike k words bytes = kept-alike-by k words bytes (ltb n mostBodies) refl
+      → setsText k words (n + 1) (firstBodies kept n ++ body) bytes ≡ setsText k words (n + 1) (firstBodies (withBody kept n body) (n + 1)) bytes
+  kept-alike k words bytes = kept-alike-by k words bytes (ltb n (bodies kept)) refl
 
   kept-room-by : (b : Bool) → length (if b then sets kept (n * bodySize) body else kept) ≡ bodiesRoom
   kept-room-by true = length-sets kept (n * bodySize) body ∙ room
   kept-room-by false = room
 
-  kept-room : length (bodiesWith kept n body) ≡ bodiesRoom
-  kept-room = kept-room-by (ltb n mostBodies)
+  kept-room : length (withBody kept n body) ≡ bodiesRoom
+  kept-room = kept-room-by (ltb n (bodies kept))
 
 -- ---- the text that is still to come, from where the tape is and the bytes that are left
 
 abbrev pub textFrom : Stage → ℕ → List ℕ → List ℕ → List ℕ → List ℕ
-textFrom Sets n words kept bytes = setsText (suc (length bytes)) words n (bodiesKept kept n) bytes
+textFrom Sets n words kept bytes = setsText (suc (length bytes)) words n (firstBodies kept n) bytes
 textFrom Items n words kept bytes = itemsText (suc (length bytes)) words n bytes
 textFrom Ended n words kept bytes = []
 
@@ -201,14 +192,14 @@ module _ (words kept left later : List ℕ) (last : Bool) (n : ℕ) (room : leng
   told-item-by : (next : Next) → nextItem left last ≡ next → (last ≡ true → later ≡ [])
       → Told (textFrom Items n words kept (left ++ later)) (itemTurn next n words kept left) left later
   told-item-by Whole e l =
-      let w : nextItem (left ++ later) true ≡ Whole = item-ahead later left last l (λ s. let z : _≡_ {A = ℕ} 0 1 = cc in omega arith) ∙ e in
+      let w : nextItem (left ++ later) true ≡ Whole = item-ahead later left last l (λ s. whole-apart (sym e ∙ s)) ∙ e in
       told-item w (whole-item-there left last e)
   told-item-by Short e l = told-here (itemTurn Short n words kept left) _ refl (omega arith) refl refl
   told-item-by Bad e l =
-      let w : nextItem (left ++ later) true ≡ Bad = item-ahead later left last l (λ s. let z : _≡_ {A = ℕ} 0 1 = cc in omega arith) ∙ e in
+      let w : nextItem (left ++ later) true ≡ Bad = item-ahead later left last l (λ s. bad-apart (sym e ∙ s)) ∙ e in
       told-here (itemTurn Bad n words kept left) _ refl (omega arith) refl (rw (w, append-nil))
   told-item-by Over e l =
-      let w : nextItem (left ++ later) true ≡ Over = item-ahead later left last l (λ s. let z : _≡_ {A = ℕ} 0 1 = cc in omega arith) ∙ e in
+      let w : nextItem (left ++ later) true ≡ Over = item-ahead later left last l (λ s. over-apart (sym e ∙ s)) ∙ e in
       told-here (itemTurn Over n words kept left) _ refl (omega arith) refl (rw (w, append-nil))
 
   -- ---- sets
@@ -228,7 +219,7 @@ module _ (words kept left later : List ℕ) (last : Bool) (n : ℕ) (room : leng
       record {
         same =
             rw (e, part-append left later 1 attributesSize there, drop-append-le setLength left later there, ← one)
-            (sets-enough (length (left ++ later)) (suc (length rest)) words (n + 1) (bodiesKept kept n ++ body) rest (omega arith) (omega arith)
+            (sets-enough (length (left ++ later)) (suc (length rest)) words (n + 1) (firstBodies kept n ++ body) rest (omega arith) (omega arith)
             ∙ kept-alike kept body n room size (suc (length rest)) words rest);
         room = kept-room kept body n room size;
         few = rw (← one) (omega arith);
@@ -237,15 +228,15 @@ module _ (words kept left later : List ℕ) (last : Bool) (n : ℕ) (room : leng
   told-set-by : (next : Next) → nextSet left last ≡ next → (last ≡ true → later ≡ [])
       → Told (textFrom Sets n words kept (left ++ later)) (setTurn next n words kept left) left later
   told-set-by Whole e l =
-      let w : nextSet (left ++ later) true ≡ Whole = set-ahead later left last l (λ s. let z : _≡_ {A = ℕ} 0 1 = cc in omega arith) ∙ e in
+      let w : nextSet (left ++ later) true ≡ Whole = set-ahead later left last l (λ s. whole-apart (sym e ∙ s)) ∙ e in
       told-set w (whole-set-there left last e)
   told-set-by Short e l = told-here (setTurn Short n words kept left) _ refl (omega arith) refl refl
   told-set-by Bad e l =
-      let w : nextSet (left ++ later) true ≡ Bad = set-ahead later left last l (λ s. let z : _≡_ {A = ℕ} 0 1 = cc in omega arith) ∙ e in
+      let w : nextSet (left ++ later) true ≡ Bad = set-ahead later left last l (λ s. bad-apart (sym e ∙ s)) ∙ e in
       told-here (setTurn Bad n words kept left) _ refl (omega arith) refl (rw (w, append-nil))
   told-set-by Over e l =
-      let w : nextSet (left ++ later) true ≡ Over = set-ahead later left last l (λ s. let z : _≡_ {A = ℕ} 0 1 = cc in omega arith) ∙ e in
-      let result = setUp (bodiesKept kept n) words in
+      let w : nextSet (left ++ later) true ≡ Over = set-ahead later left last l (λ s. over-apart (sym e ∙ s)) ∙ e in
+      let result = setUp (firstBodies kept n) words in
       told-here (setTurn Over n words kept left) _ refl (omega arith) refl
       (rw w (ap (λ (l : List ℕ). setsLine n (result .answer .status) ++ l) (started (eqb (result .answer .status) 0) (result .table))))
 
@@ -352,4 +343,6 @@ told-pieces (c ∷ cs) p words kept left coming room few h e =
     (w .same ∙ ap (λ (l : List ℕ). textOf c ++ l) (told-pieces cs (c .at) (c .words) (c .bodies) (drop (c .at .used) piece) (c .later) (w .room) (w .few) (h .3) e))
 
 pub printed : Printed
-printed words kept file cs room few h e = sym (told-pieces cs atStart words kept [] file room (omega arith) h e)
+printed words kept file cs room few h e =
+    let none : min 0 (bodies kept) * bodySize ≡ 0 = omega arith in
+    sym (rw none at (told-pieces cs atStart words kept [] file room (omega arith) h e))

@@ -12,11 +12,11 @@ use Rattle.octets.specs.Choice.{if_then_else_}
 use Rattle.octets.specs.Octets.{part}
 use Rattle.pages.specs.Bodies.{bodySize}
 use Rattle.replies.specs.Answers.{cut}
-use Rattle.steps.specs.SetUp.{setUp, SetUp}
+use Rattle.steps.specs.SetUp.{bodies, withBody, firstBodies, setUp, SetUp}
 use Rattle.tape.specs.Text.{setsLine, badLine, endLine, Put}
 use Rattle.tape.specs.Tape.{itemSize, itemIn, attributesKind, attributesSize, Played, nextBody, nextSet, nextItem}
 use Rattle.tape.specs.Printout.{firstItem, itemLength, setLength}
-use Rattle.tape.specs.Pieces.{progress, mostBodies, bodiesWith, bodiesKept, mostCounted, oneMore, Turn, setUpTurn, setTurn, itemTurn, turnAt}
+use Rattle.tape.specs.Pieces.{progress, mostBodies, bodiesRoom, mostCounted, oneMore, Turn, setUpTurn, setTurn, itemTurn, turnAt}
 use Rattle.tape.specs.Turning.{Turned}
 use Rattle.tape.specs.declared.Next.{Next}
 use Rattle.tape.specs.declared.Next.the-variants.{Whole, Short, Bad, Over}
@@ -32,11 +32,16 @@ counted n h = rw (lt-ltb n mostCounted h)
 pub counted-full : (n : ℕ) → mostCounted ≤ n → n ≡ oneMore n
 counted-full n h = rw (le-ltb n mostCounted h)
 
-pub kept-first : (bodies body after : List ℕ) (n : ℕ) → n < mostBodies → after ≡ sets bodies (n * bodySize) body → after ≡ bodiesWith bodies n body
-kept-first bodies body after n h e = rw (lt-ltb n mostBodies h) e
+-- how many bodies there is room for
+pub room-for-all : (kept : List ℕ) → length kept ≡ bodiesRoom → bodies kept ≡ mostBodies
+room-for-all kept r = omega arith
 
-pub kept-no-more : (bodies body : List ℕ) (n : ℕ) → mostBodies ≤ n → bodies ≡ bodiesWith bodies n body
-kept-no-more bodies body n h = rw (le-ltb n mostBodies h)
+pub kept-first :
+    (kept body after : List ℕ) (n : ℕ) → length kept ≡ bodiesRoom → n < mostBodies → after ≡ sets kept (n * bodySize) body → after ≡ withBody kept n body
+kept-first kept body after n r h e = rw (lt-ltb n (bodies kept) (omega arith)) e
+
+pub kept-no-more : (kept body : List ℕ) (n : ℕ) → length kept ≡ bodiesRoom → mostBodies ≤ n → kept ≡ withBody kept n body
+kept-no-more kept body n r h = rw (le-ltb n (bodies kept) (omega arith))
 
 -- the part of bytes from their start
 pub cut-front : (l : List ℕ) (n : ℕ) → cut l 0 n ≡ take n l
@@ -62,6 +67,16 @@ whole-set-if false size have last e = let z : _≡_ {A = ℕ} 0 1 = cc in absurd
 whole-item-if : (isItem : Bool) (size have : ℕ) (last : Bool) → (if isItem then nextBody size have last else Bad) ≡ Whole → size ≤ have
 whole-item-if true size have last e = whole-body size have last e
 whole-item-if false size have last e = let z : _≡_ {A = ℕ} 0 1 = cc in absurd (omega arith)
+
+-- more bytes are wanted, or something else is told
+pub whole-apart : Whole ≡ Short → ⊥
+whole-apart e = let z : _≡_ {A = ℕ} 0 1 = cc in omega arith
+
+pub bad-apart : Bad ≡ Short → ⊥
+bad-apart e = let z : _≡_ {A = ℕ} 0 1 = cc in omega arith
+
+pub over-apart : Over ≡ Short → ⊥
+over-apart e = let z : _≡_ {A = ℕ} 0 1 = cc in omega arith
 
 none-whole : (last : Bool) → (if last then Over else Short) ≡ Whole → ⊥
 none-whole true e = let z : _≡_ {A = ℕ} 0 1 = cc in omega arith
@@ -93,26 +108,28 @@ turned-line t line₀ r words bodies line len p e w b =
     record { progress-is = rw long at e; table = w; kept = b; text = p .bytes; within = rw (← long) (p .within) }
 
 pub turned-set-up :
-    (n size status : ℕ) (bodies words₀ words line₀ line : List ℕ) (len : ℕ) (r : Progress) → size ≡ min n mostBodies * bodySize
-    → SetUp (cut bodies 0 size) words₀ words status → Put line₀ 0 (setsLine n status) line len → status ≡ 0 → r ≡ progress Items 0 0 len true
-    → Turned (setUpTurn n (setUp (bodiesKept bodies n) words₀) bodies) line₀ r words bodies line
-turned-set-up n size status bodies words₀ words line₀ line len r es s p z e =
-    let result = setUp (bodiesKept bodies n) words₀ in
-    let u : SetUp (bodiesKept bodies n) words₀ words status = rw (cut-front bodies size, es) at s in
+    (n size status : ℕ) (kept words₀ words line₀ line : List ℕ) (len : ℕ) (r : Progress) → length kept ≡ bodiesRoom → size ≡ min n mostBodies * bodySize
+    → SetUp (cut kept 0 size) words₀ words status → Put line₀ 0 (setsLine n status) line len → status ≡ 0 → r ≡ progress Items 0 0 len true
+    → Turned (setUpTurn n (setUp (firstBodies kept n) words₀) kept) line₀ r words kept line
+turned-set-up n size status kept words₀ words line₀ line len r room es s p z e =
+    let result = setUp (firstBodies kept n) words₀ in
+    let all : size ≡ min n (bodies kept) * bodySize = rw (room-for-all kept room) es in
+    let u : SetUp (firstBodies kept n) words₀ words status = rw (cut-front kept size, all) at s in
     let ok : eqb (result .answer .status) 0 ≡ true = eq-eqb (result .answer .status) 0 (sym (u .status) ∙ z) in
     let q : Put line₀ 0 (setsLine n (result .answer .status)) line len = rw (u .status) at p in
-    rw ok (turned-line _ line₀ r words bodies line len q e (u .table) refl)
+    rw ok (turned-line _ line₀ r words kept line len q e (u .table) refl)
 
 pub turned-set-up-refused :
-    (n size status : ℕ) (bodies words₀ words line₀ line : List ℕ) (len : ℕ) (r : Progress) → size ≡ min n mostBodies * bodySize
-    → SetUp (cut bodies 0 size) words₀ words status → Put line₀ 0 (setsLine n status) line len → (status ≡ 0 → ⊥) → r ≡ progress Ended 0 0 len false
-    → Turned (setUpTurn n (setUp (bodiesKept bodies n) words₀) bodies) line₀ r words bodies line
-turned-set-up-refused n size status bodies words₀ words line₀ line len r es s p z e =
-    let result = setUp (bodiesKept bodies n) words₀ in
-    let u : SetUp (bodiesKept bodies n) words₀ words status = rw (cut-front bodies size, es) at s in
+    (n size status : ℕ) (kept words₀ words line₀ line : List ℕ) (len : ℕ) (r : Progress) → length kept ≡ bodiesRoom → size ≡ min n mostBodies * bodySize
+    → SetUp (cut kept 0 size) words₀ words status → Put line₀ 0 (setsLine n status) line len → (status ≡ 0 → ⊥) → r ≡ progress Ended 0 0 len false
+    → Turned (setUpTurn n (setUp (firstBodies kept n) words₀) kept) line₀ r words kept line
+turned-set-up-refused n size status kept words₀ words line₀ line len r room es s p z e =
+    let result = setUp (firstBodies kept n) words₀ in
+    let all : size ≡ min n (bodies kept) * bodySize = rw (room-for-all kept room) es in
+    let u : SetUp (firstBodies kept n) words₀ words status = rw (cut-front kept size, all) at s in
     let bad : eqb (result .answer .status) 0 ≡ false = ne-eqb (result .answer .status) 0 (λ y. z (u .status ∙ y)) in
     let q : Put line₀ 0 (setsLine n (result .answer .status)) line len = rw (u .status) at p in
-    rw bad (turned-line _ line₀ r words bodies line len q e (u .table) refl)
+    rw bad (turned-line _ line₀ r words kept line len q e (u .table) refl)
 
 pub turned-item :
     (left words₀ words line₀ line : List ℕ) (n size count len : ℕ) (r : Progress) → size ≡ itemSize (getD left 0 0) → count ≡ oneMore n

@@ -2,7 +2,7 @@
 use mathlib.Core.Path.{_≡_}
 use mathlib.Core.Bool.{Bool, true, false}
 use mathlib.Core.List.{List, [], _∷_, _++_, map}
-use Prim.Native.Nat.{ℕ, zero, suc, _+_, _*_, _-_, _^_, _≤_, _<_, min}
+use Prim.Native.Nat.{ℕ, zero, suc, _+_, _*_, _-_, _^_, _≤_, _<_}
 use lib.Dec.{eqb, ltb}
 use lib.ListN.{length, take, drop}
 use lib.Seq.{sets}
@@ -14,7 +14,7 @@ use Rattle.pages.specs.Features.{featureSize}
 use Rattle.pages.specs.Bodies.{bodySize}
 use Rattle.commands.specs.Commands.{commandSize}
 use Rattle.steps.specs.Words.{Result}
-use Rattle.steps.specs.SetUp.{setUp}
+use Rattle.steps.specs.SetUp.{withBody, firstBodies, setUp}
 use Rattle.tape.specs.Text.{statusDigits, dwordDigits, setsLine, endLine, badLine}
 use Rattle.tape.specs.Tape.{attributesSize, answerSize, wordsAfter, lineFor, nextSet, nextItem}
 use Rattle.tape.specs.Printout.{firstItem, itemLength, setLength, printoutOn}
@@ -34,19 +34,12 @@ progress stage count used len going = record { stage = stage; count = count; use
 abbrev pub atStart : Progress
 atStart = progress Sets 0 0 0 true
 
--- The bodies of the sets, until set-up is done. One more than a card can have sets is enough to have it refused.
+-- Room for the bodies of the sets, until set-up is done: one more than a card can have sets is enough to have it refused.
 abbrev pub mostBodies : ℕ
 mostBodies = suc maxSets
 
 abbrev pub bodiesRoom : ℕ
 bodiesRoom = mostBodies * bodySize
-
--- a body put after the n before it, if there is room; and what is kept of n
-abbrev pub bodiesWith : List ℕ → ℕ → List ℕ → List ℕ
-bodiesWith bodies n body = if ltb n mostBodies then sets bodies (n * bodySize) body else bodies
-
-abbrev pub bodiesKept : List ℕ → ℕ → List ℕ
-bodiesKept bodies n = take (min n mostBodies * bodySize) bodies
 
 -- N is kept in 64 bits, and no file has so many items.
 abbrev pub mostCounted : ℕ
@@ -79,10 +72,10 @@ setUpTurn n result bodies =
 
 -- "Kinds 07h come first": a body is kept, more bytes are wanted, "a cut 07h prints "bad 0" alone", or the sets are set up
 abbrev pub setTurn : Next → ℕ → List ℕ → List ℕ → List ℕ → Turn
-setTurn Whole n words bodies left = turn Sets (oneMore n) setLength true words (bodiesWith bodies n (part left 1 attributesSize)) []
+setTurn Whole n words bodies left = turn Sets (oneMore n) setLength true words (withBody bodies n (part left 1 attributesSize)) []
 setTurn Short n words bodies left = turn Sets n 0 false words bodies []
 setTurn Bad n words bodies left = turn Ended n 0 false words bodies (badLine 0)
-setTurn Over n words bodies left = setUpTurn n (setUp (bodiesKept bodies n) words) bodies
+setTurn Over n words bodies left = setUpTurn n (setUp (firstBodies bodies n) words) bodies
 
 -- an item is played, more bytes are wanted, "bad N", or "end N"
 abbrev pub itemTurn : Next → ℕ → List ℕ → List ℕ → List ℕ → Turn

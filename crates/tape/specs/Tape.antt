@@ -18,7 +18,8 @@ use Rattle.tape.specs.Text.{itemLine}
 use Rattle.tape.specs.declared.Next.{Next}
 use Rattle.tape.specs.declared.Next.the-variants.{Whole, Short, Bad, Over}
 
--- kinds of items: "01h command", "02h command with data", "03h reads and 04h writes", "05h excursion", "06h tick"
+-- kinds of items: "01h command", "02h command with data", "03h reads and 04h writes", "06h tick"; 05h, the excursion, is the one
+-- that is left
 abbrev pub commandKind : ℕ
 commandKind = 1
 
@@ -30,9 +31,6 @@ readsKind = 3
 
 abbrev pub writesKind : ℕ
 writesKind = 4
-
-abbrev pub excursionKind : ℕ
-excursionKind = 5
 
 abbrev pub tickKind : ℕ
 tickKind = 6

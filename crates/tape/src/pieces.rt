@@ -4,11 +4,11 @@ ghost use mathlib.Core.List.{[]};
 ghost use Prim.Native.Nat.{_+_, _*_, _≤_, min};
 ghost use lib.ListN.{length, take};
 ghost use Rattle.pages.specs.Bodies.{bodySize};
-ghost use Rattle.steps.specs.SetUp.{setUp};
+ghost use Rattle.steps.specs.SetUp.{withBody, firstBodies, setUp};
 ghost use Rattle.tape.specs.Text.{Put};
 ghost use Rattle.tape.specs.Tape.{itemSize, attributesSize, nextSet, nextItem};
 ghost use Rattle.tape.specs.Printout.{itemLength, setLength};
-ghost use Rattle.tape.specs.Pieces.{progress, atStart, mostBodies, bodiesRoom, bodiesWith, bodiesKept, oneMore, setUpTurn, setTurn, itemTurn, turnAt, player, PlayedOn};
+ghost use Rattle.tape.specs.Pieces.{progress, atStart, mostBodies, bodiesRoom, oneMore, setUpTurn, setTurn, itemTurn, turnAt, player, PlayedOn};
 ghost use Rattle.tape.specs.Turning.{Turned, Advanced};
 ghost use Rattle.tape.specs.declared.Next.the-variants.{Whole};
 use crate::Next;
@@ -25,6 +25,7 @@ use crate::lines::sets_line;
 use crate::text::put_text;
 use card::set_up::set_up;
 use pages::bodies::BODY;
+use replies::numbers::SUCCESS;
 use table::MAX_SETS;
 
 // One body more than a card can have sets: from there on set-up refuses, however many follow.
@@ -62,9 +63,9 @@ fn one_more(n: u64) -> u64
 // ---- the sets
 
 // A set's body, kept after those before it if there is room.
-fn keep(bodies: &mut [u8; BODIES], n: u64, body: &[u8])
-    requires { ⌜ length (now body) ≡ attributesSize ⌝ }
-    ensures { λ _. ⌜ now (bodies .exit) ≡ bodiesWith (now (bodies .entry)) n (now (body .entry)) ⌝ }
+fn keep(bodies: &mut [u8], n: u64, body: &[u8])
+    requires { ⌜ (length (now bodies) ≡ bodiesRoom) × (length (now body) ≡ attributesSize) ⌝ }
+    ensures { λ _. ⌜ now (bodies .exit) ≡ withBody (now (bodies .entry)) n (now (body .entry)) ⌝ }
 {
     if n < MOST as u64 {
         put_text(bodies, n as usize * BODY, body);
@@ -84,12 +85,12 @@ fn kept_len(n: u64) -> usize
 
 fn set_up_turn(table: &mut [u64], bodies: &[u8], line: &mut [u8; LINE], n: u64) -> Progress
     requires { ⌜ length (now bodies) ≡ bodiesRoom ⌝ }
-    ensures { λ r. ⌜ Turned (setUpTurn n (setUp (bodiesKept (now (bodies .entry)) n) (now (table .entry))) (now (bodies .entry))) (now (line .entry)) r (now (table .exit)) (now (bodies .entry)) (now (line .exit)) ⌝ }
+    ensures { λ r. ⌜ Turned (setUpTurn n (setUp (firstBodies (now (bodies .entry)) n) (now (table .entry))) (now (bodies .entry))) (now (line .entry)) r (now (table .exit)) (now (bodies .entry)) (now (line .exit)) ⌝ }
 {
     let size = kept_len(n);
     let status = set_up(table, &bodies[0..size]);
     let len = sets_line(line, n, status);
-    if status == 0 {
+    if status == SUCCESS {
         made(Stage::Items, 0, 0, len, true)
     } else {
         made(Stage::Ended, 0, 0, len, false)

@@ -58,8 +58,8 @@ use denote.Exit.{yes}
 use Rattle.record.specs.declared.Attributes.{Attributes}
 use Rattle.record.proofs.Attributes as T
 use Rattle.record.proofs.Attributes.Laws as T′
-use Rattle.steps.specs.SetUp.{SetUp}
-use Rattle.by_reference.specs.Buffer.{withBody, firstBodies}
+use Rattle.pages.specs.Bodies.{body}
+use Rattle.steps.specs.SetUp.{withBody, firstBodies, SetUp}
 use Rattle.by_reference.specs.Lists.{bodiesOf}
 use Rattle.by_reference.proofs.Values.{attributesVal}
 use Rattle.by_reference.proofs.Filled.{blank, Filled, filled-none, filled-more, set-up-all}
@@ -325,8 +325,8 @@ module _ {M : Type 1} (𝓤 : URA M) (H : Heap 𝓤) (A : Atoms 𝓤) (W : Given
         (and-then ! (load ! (from ! (stop !)) (look ! 22 refl)) (and-then ! (load ! (from ! (stop !)) (look ! 32 refl)) (and-then ! (load ! (from ! (stop !)) (look ! 18 refl)) (no-more !)))) (λ w.
         use1 W (later (some (λ (u : Unit {0}). ((‵ (flft (ν ∷ []) fullShare) ⊛ ‵ ftrue) ⊛ ‵ (unit .own u (w ∷ []))) ⊛ raw (ensured 𝓤 H A put.ended (put.clauses 𝓤 H A at-mem run) (ν ∷ [], tt) (y l₃ δ bs, (i, (getD ys i blank, tt))) tt u)))) (id⊢ 𝓤 _) $ await ! tt $ pick ! (λ u.
         -- what `put_body` ensures, at some last bytes
-        split ! $ move ! (1 ∷ []) $ use1 W (some (λ (zs : List ℕ × (Unit {0} × (Unit {0} × Unit {0}))). ‵ (lasts put.ended (ν ∷ [], tt) (y l₃ δ bs, (i, (getD ys i blank, tt))) zs) ⊛ raw (fact 𝓤 (zs .0 ≡ withBody bs i (getD ys i blank))))) (id⊢ 𝓤 _) $ pick ! (λ zs.
-        split ! $ move ! (1 ∷ []) $ heard ! (zs .0 ≡ withBody bs i (getD ys i blank)) (λ e. fsplit ! $ fsplit ! $ move ! (1 ∷ []) $ feqL ! (λ l.
+        split ! $ move ! (1 ∷ []) $ use1 W (some (λ (zs : List ℕ × (Unit {0} × (Unit {0} × Unit {0}))). ‵ (lasts put.ended (ν ∷ [], tt) (y l₃ δ bs, (i, (getD ys i blank, tt))) zs) ⊛ raw (fact 𝓤 (zs .0 ≡ withBody bs i (body (getD ys i blank)))))) (id⊢ 𝓤 _) $ pick ! (λ zs.
+        split ! $ move ! (1 ∷ []) $ heard ! (zs .0 ≡ withBody bs i (body (getD ys i blank))) (λ e. fsplit ! $ fsplit ! $ move ! (1 ∷ []) $ feqL ! (λ l.
         move ! (2 ∷ []) $ split ! $ move ! (1 ∷ []) $ peeks ! unit (Is unit) (shows 𝓤 H A unit) u (w ∷ []) (λ is-u.
         -- [the unit's; ν's token; the last bytes; …; what is lent; the list's token; the fractured borrow; the table; its token; res; the list's facts; _16 11; …; room for _7 29; …]
         land ! (from ! (stop !)) (init ! 29 refl (nothing-lawful 𝓤 H A W .typed u _ is-u .0)) $

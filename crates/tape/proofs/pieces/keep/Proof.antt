@@ -7,8 +7,9 @@ pub keep-spec : {M : Type 1} → statement M
 keep-spec =
     tie.close
     (tie.spec
-    (λ c. search needs) (λ c κs. search needs)
+    (λ c. search needs) (λ c κs. search needs) (λ c. search needs)
     (λ c.
-    let s = c .before .before .before .before in
-    kept-first (s .args .bodies .now) (s .args .body .now) _ _ (c .before .before .if1 .taken) (c .put-text .ensures .bytes))
-    (λ c. let s = c .before .before in kept-no-more (s .args .bodies .now) (s .args .body .now) _ (c .if1 .left)))
+    let i = c .before .before .before .before in
+    let s = i .before .before .before in
+    kept-first (s .args .bodies .now) (s .args .body .now) _ _ (s .pre .0) (i .if1 .taken) (c .before .before .put-text .ensures .bytes))
+    (λ c. let s = c .before .before .before in kept-no-more (s .args .bodies .now) (s .args .body .now) _ (s .pre .0) (c .if1 .left)))

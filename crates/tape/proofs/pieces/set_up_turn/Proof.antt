@@ -11,8 +11,8 @@ set-up-turn-spec =
     (λ c κs. search needs) (λ c κs. search needs) (λ c κs. search needs) (λ c. search needs)
     (λ c.
     let s = c .before .before .before .before .before .before .before .before .before .before .before .before in
-    turned-set-up (s .args .n) _ _ (s .args .bodies .now) _ _ _ _ _ _ (c .before .before .before .before .before .before .before .before .before .kept-len .ensures) (c .before .before .before .before .before .before .set-up .ensures) (c .before .before .sets-line .ensures) (c .before .if1 .taken) (c .made .ensures))
+    turned-set-up (s .args .n) _ _ (s .args .bodies .now) _ _ _ _ _ _ (s .pre) (c .before .before .before .before .before .before .before .before .before .kept-len .ensures) (c .before .before .before .before .before .before .set-up .ensures) (c .before .before .sets-line .ensures) (c .before .if1 .taken) (c .made .ensures))
     (λ c. search needs)
     (λ c.
     let s = c .before .before .before .before .before .before .before .before .before .before .before .before in
-    turned-set-up-refused (s .args .n) _ _ (s .args .bodies .now) _ _ _ _ _ _ (c .before .before .before .before .before .before .before .before .before .kept-len .ensures) (c .before .before .before .before .before .before .set-up .ensures) (c .before .before .sets-line .ensures) (c .before .if1 .left) (c .made2 .ensures)))
+    turned-set-up-refused (s .args .n) _ _ (s .args .bodies .now) _ _ _ _ _ _ (s .pre) (c .before .before .before .before .before .before .before .before .before .kept-len .ensures) (c .before .before .before .before .before .before .set-up .ensures) (c .before .before .sets-line .ensures) (c .before .if1 .left) (c .made2 .ensures)))
