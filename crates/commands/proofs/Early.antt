@@ -1,6 +1,6 @@
 -- The rows before the set is looked up, as the code asks them: of the row of the command's kind.
 use mathlib.Core.Path.{_≡_, sym, ap, _∙_}
-use mathlib.Core.Bool.{true, false, not, _&&_, _||_, and-false}
+use mathlib.Core.Bool.{Bool, true, false, not, _&&_, _||_, and-false}
 use mathlib.Core.List.{List, [], _∷_}
 use Prim.Native.Nat.{ℕ}
 use borrow.Author.Tests.{eq-eqb, ne-eqb}
@@ -43,9 +43,13 @@ module _ (k : Kind) (c : Command) (e : k ≡ kindOf c) (op n : ℕ) (s : Shape) 
     has : hasOpcode (opcode c) k ≡ true
     has = eq-eqb (opcode c) (shapeOf k .opcode) (sym eo ∙ h ∙ ap (λ (x : Shape). x .opcode) es)
 
-    module _ (m : n ≡ s .choice → ⊥) where
+    -- whether it is this FID, CNS or page, as the code asks it
+    choice-is : (b : Bool) → b ≡ (not (s .chooses) || eqb n (s .choice)) → hasChoice (chosen c) k ≡ b
+    choice-is b eb = sym (eb ∙ rw (es, en))
+
+    module _ (b : Bool) (eb : b ≡ (not (s .chooses) || eqb n (s .choice))) (m : b ≡ false) where
       not-it : hasChoice (chosen c) k ≡ false
-      not-it = ne-eqb (chosen c) (shapeOf k .choice) (λ z. m (en ∙ z ∙ ap (λ (x : Shape). x .choice) (sym es)))
+      not-it = choice-is b eb ∙ m
 
       pub no-page : op ≡ logOpcode → invalidLogPage ≡ firstOf (earlyLines c)
       no-page l =
@@ -58,11 +62,11 @@ module _ (k : Kind) (c : Command) (e : k ≡ kindOf c) (op n : ℕ) (s : Shape) 
           q ∙ early-is k c e
 
     pub listed-rows :
-        (r : ℕ) → n ≡ s .choice
+        (b : Bool) (r : ℕ) → b ≡ (not (s .chooses) || eqb n (s .choice)) → b ≡ true
         → r ≡ firstOf (line (s .save && save c) notSaveable ∷ line (s .select && not (eqb (select c) 0) || s .part && partWrong k c) invalidField ∷ [])
         → r ≡ firstOf (earlyLines c)
-    listed-rows r m er =
-        let l = eq-eqb (chosen c) (shapeOf k .choice) (sym en ∙ m ∙ ap (λ (x : Shape). x .choice) es) in
+    listed-rows b r eb m er =
+        let l : hasChoice (chosen c) k ≡ true = choice-is b eb ∙ m in
         let q : firstOf (line (s .save && save c) notSaveable ∷ line (s .select && not (eqb (select c) 0) || s .part && partWrong k c) invalidField ∷ []) ≡ firstOf (rowsOf k c)
         = rw (es, w, has, l, and-false (not (readsLog c)), and-false (readsLog c)) in
         er ∙ q ∙ early-is k c e

@@ -96,3 +96,13 @@ offset c = c .cdw12 + 2 ^ 32 * c .cdw13
 -- "Identify 04h": "sets with identifier at or above CDW11 15:0"
 abbrev pub asked : Command → ℕ
 asked c = bits 15 0 (c .cdw11)
+
+-- ---- 02, "Wake the host"
+
+-- the command's own identifier, by which its completion is known: bytes 3:2
+abbrev pub identifier : Command → ℕ
+identifier c = bits 31 16 (c .cdw0)
+
+-- "feature 0Bh bit 12 for Get and Set Features": CDW11 bit 12 of Set
+abbrev pub turnsOn : Command → Bool
+turnsOn c = eqb (bits 12 12 (c .cdw11)) 1

@@ -1,11 +1,12 @@
 -- 01, "Status numbers .. checked in this order": a row each from "command not of 64 bytes" on, for every command; `commandRows` of
--- crates/steps/specs/Rows.antt has all eleven under each other. Which rows look at a command stands in its row of Shapes.antt.
+-- crates/steps/specs/Rows.antt has all eleven under each other, and 02's. Which rows look at a command stands in its row of Shapes.antt.
 use mathlib.Core.Bool.{Bool, not, _&&_, _||_}
 use mathlib.Core.List.{List, [], _∷_}
 use Prim.Native.Nat.{ℕ, _%_}
-use lib.Dec.{ltb, eqb}
+use lib.Dec.{ltb, leb, eqb}
 use Rattle.octets.specs.Choice.{if_then_else_}
 use Rattle.octets.specs.Lists.{anyOf}
+use Rattle.desk.specs.Desk.{requestsMaximum}
 use Rattle.record.specs.declared.Attributes.{Attributes}
 use Rattle.record.specs.declared.State.{State}
 use Rattle.record.specs.declared.Window.the-variants.{D, N}
@@ -99,6 +100,10 @@ shortLine k c given room = line (ltb given (needsIn k) || ltb room (needsOut k c
 -- "select D from N too early"
 abbrev pub selectsEarly : Kind → Command → Attributes → State → Bool
 selectsEarly k c a s = shapeOf k .window && isEarly (windowCause c) a s
+
+-- 02: "Up to four requests wait ..; a fifth gets 0105h." So many wait already.
+abbrev pub requestLine : Kind → ℕ → Line
+requestLine k waiting = line (shapeOf k .queues && leb requestsMaximum waiting) numbers.tooManyRequests
 
 abbrev pub lateLines : Kind → Command → ℕ → ℕ → Attributes → State → List Line
 lateLines k c given room a s =

@@ -5,7 +5,7 @@ pub mod status_table;
 ghost use mathlib.Core.Path.{_≡_};
 ghost use Prim.Native.Nat.{_≤_};
 ghost use lib.ListN.{length};
-ghost use Rattle.commands.specs.Commands.{commandSize, dwordsOf, commandIn, bits, opcode, chosen, save, select, featureSet, enable, windowValue, causeBy, windowCause, retain, dwords, logSet, offset, asked};
+ghost use Rattle.commands.specs.Commands.{commandSize, dwordsOf, commandIn, bits, opcode, chosen, save, select, featureSet, enable, windowValue, causeBy, windowCause, retain, dwords, logSet, offset, asked, identifier, turnsOn};
 use octets::numbers::word;
 use record::SetId;
 use rules::Cause;
@@ -20,14 +20,18 @@ pub struct Command {
     pub cdw13: u32,
 }
 
-// 01's commands: Set and Get Features 13h (config) and 14h (window), Get Log Page 0Ah and 0Bh, Identify 04h.
+// The commands: Set and Get Features 0Bh (notices), 13h (config) and 14h (window), Get Log Page 0Ah and 0Bh, Asynchronous Event
+// Request, Identify 04h.
 pub enum Kind {
+    SetNotices,
     SetConfig,
     SetWindow,
+    GetNotices,
     GetConfig,
     GetWindow,
     ReadLatency,
     ReadAggregate,
+    EventRequest,
     Identify,
 }
 
@@ -41,7 +45,8 @@ pub enum Whom {
 // A row of the table of commands.
 pub struct Shape {
     pub opcode: u32,
-    // FID, CNS or page
+    // Whether it has a FID, CNS or page, and which.
+    pub chooses: bool,
     pub choice: u32,
     // Bytes of data in.
     pub takes: usize,
@@ -49,11 +54,12 @@ pub struct Shape {
     pub page: usize,
     pub part: bool,
     pub whom: Whom,
-    // Whether these rows of the status table look at it: Save; Select; 14h while off; no window of 1 or 2, and too early.
+    // Whether these rows of the status table look at it: Save; Select; 14h while off; no window of 1 or 2, and too early; a fifth request.
     pub save: bool,
     pub select: bool,
     pub on: bool,
     pub window: bool,
+    pub queues: bool,
 }
 
 const SIZE: usize = 64;
@@ -207,4 +213,16 @@ pub fn asked_by(c: Command) -> SetId
     ensures { λ r. ⌜ r .0 ≡ asked c ⌝ }
 {
     SetId(low_half(c.cdw11))
+}
+
+pub fn identifier_of(c: Command) -> u16
+    ensures { λ r. ⌜ r ≡ identifier c ⌝ }
+{
+    high_half(c.cdw0)
+}
+
+pub fn turns_on(c: Command) -> bool
+    ensures { λ r. ⌜ r ≡ turnsOn c ⌝ }
+{
+    c.cdw11 / 0x1000 % 2 == 1
 }

@@ -1,6 +1,6 @@
-// 01's commands as one table, and what is read from it.
+// The commands as one table, and what is read from it.
 ghost use mathlib.Core.Path.{_≡_};
-ghost use Rattle.commands.specs.Shapes.{setFeature, getFeature, readLog, identified, shapeOf, kindOf, isNamed, namedBy, needsIn, needsOut};
+ghost use Rattle.commands.specs.Shapes.{setFeature, getFeature, readLog, identified, requested, shapeOf, kindOf, isNamed, namedBy, needsIn, needsOut};
 use crate::Command;
 use crate::DWORD;
 use crate::Kind;
@@ -26,6 +26,10 @@ const SET: u32 = 0x09;
 
 const GET: u32 = 0x0A;
 
+const REQUEST: u32 = 0x0C;
+
+const NOTICES: u32 = 0x0B;
+
 const CONFIG: u32 = 0x13;
 
 const WINDOW: u32 = 0x14;
@@ -37,38 +41,42 @@ const AGGREGATE: u32 = 0x0B;
 const SET_LIST: u32 = 0x04;
 
 // Set Features: Save is looked at; so many bytes of data in, or a window.
-fn set_feature(fid: u32, takes: usize, window: bool) -> Shape
-    ensures { λ r. ⌜ r ≡ setFeature fid takes window ⌝ }
+fn set_feature(fid: u32, takes: usize, whom: Whom, window: bool) -> Shape
+    ensures { λ r. ⌜ r ≡ setFeature fid takes whom window ⌝ }
 {
     Shape {
         opcode: SET,
+        chooses: true,
         choice: fid,
         takes,
         page: 0,
         part: false,
-        whom: Whom::FeatureSet,
+        whom,
         save: true,
         select: false,
         on: window,
         window,
+        queues: false,
     }
 }
 
 // Get Features: Select is looked at; a page of that size, or the window, which is none while off.
-fn get_feature(fid: u32, page: usize, window: bool) -> Shape
-    ensures { λ r. ⌜ r ≡ getFeature fid page window ⌝ }
+fn get_feature(fid: u32, page: usize, whom: Whom, window: bool) -> Shape
+    ensures { λ r. ⌜ r ≡ getFeature fid page whom window ⌝ }
 {
     Shape {
         opcode: GET,
+        chooses: true,
         choice: fid,
         takes: 0,
         page,
         part: false,
-        whom: Whom::FeatureSet,
+        whom,
         save: false,
         select: true,
         on: window,
         window: false,
+        queues: false,
     }
 }
 
@@ -78,6 +86,7 @@ fn read_log(page: u32, size: usize, whom: Whom) -> Shape
 {
     Shape {
         opcode: LOG,
+        chooses: true,
         choice: page,
         takes: 0,
         page: size,
@@ -87,6 +96,7 @@ fn read_log(page: u32, size: usize, whom: Whom) -> Shape
         select: false,
         on: false,
         window: false,
+        queues: false,
     }
 }
 
@@ -95,6 +105,7 @@ fn identified(cns: u32, size: usize) -> Shape
 {
     Shape {
         opcode: IDENTIFY,
+        chooses: true,
         choice: cns,
         takes: 0,
         page: size,
@@ -104,6 +115,27 @@ fn identified(cns: u32, size: usize) -> Shape
         select: false,
         on: false,
         window: false,
+        queues: false,
+    }
+}
+
+// Asynchronous Event Request: no FID, no data, no page.
+fn requested() -> Shape
+    ensures { λ r. ⌜ r ≡ requested ⌝ }
+{
+    Shape {
+        opcode: REQUEST,
+        chooses: false,
+        choice: 0,
+        takes: 0,
+        page: 0,
+        part: false,
+        whom: Whom::NoSet,
+        save: false,
+        select: false,
+        on: false,
+        window: false,
+        queues: true,
     }
 }
 
@@ -111,12 +143,15 @@ pub fn shape_of(k: Kind) -> Shape
     ensures { λ r. ⌜ r ≡ shapeOf k ⌝ }
 {
     match k {
-        Kind::SetConfig => set_feature(CONFIG, FEATURE_SIZE, false),
-        Kind::SetWindow => set_feature(WINDOW, 0, true),
-        Kind::GetConfig => get_feature(CONFIG, FEATURE_SIZE, false),
-        Kind::GetWindow => get_feature(WINDOW, 0, true),
+        Kind::SetNotices => set_feature(NOTICES, 0, Whom::NoSet, false),
+        Kind::SetConfig => set_feature(CONFIG, FEATURE_SIZE, Whom::FeatureSet, false),
+        Kind::SetWindow => set_feature(WINDOW, 0, Whom::FeatureSet, true),
+        Kind::GetNotices => get_feature(NOTICES, 0, Whom::NoSet, false),
+        Kind::GetConfig => get_feature(CONFIG, FEATURE_SIZE, Whom::FeatureSet, false),
+        Kind::GetWindow => get_feature(WINDOW, 0, Whom::FeatureSet, true),
         Kind::ReadLatency => read_log(LATENCY, LATENCY_SIZE, Whom::LogSet),
         Kind::ReadAggregate => read_log(AGGREGATE, AGGREGATE_SIZE, Whom::NoSet),
+        Kind::EventRequest => requested(),
         Kind::Identify => identified(SET_LIST, IDENTIFY_SIZE),
     }
 }
@@ -128,12 +163,18 @@ pub fn kind_of(c: Command) -> Kind
     let opcode = opcode_of(c);
     let choice = chosen_by(c);
     if opcode == SET {
+        if choice == NOTICES {
+            return Kind::SetNotices;
+        }
         if choice == CONFIG {
             return Kind::SetConfig;
         }
         return Kind::SetWindow;
     }
     if opcode == GET {
+        if choice == NOTICES {
+            return Kind::GetNotices;
+        }
         if choice == CONFIG {
             return Kind::GetConfig;
         }
@@ -144,6 +185,9 @@ pub fn kind_of(c: Command) -> Kind
             return Kind::ReadLatency;
         }
         return Kind::ReadAggregate;
+    }
+    if opcode == REQUEST {
+        return Kind::EventRequest;
     }
     Kind::Identify
 }

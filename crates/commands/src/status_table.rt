@@ -4,11 +4,13 @@ ghost use mathlib.Core.Bool.{true, not, _&&_, _||_};
 ghost use mathlib.Core.List.{[], _∷_, _++_};
 ghost use lib.Dec.{eqb, ltb};
 ghost use Rattle.octets.specs.Choice.{if_then_else_};
-ghost use Rattle.replies.specs.Numbers.{success, invalidField, notSaveable, tooShort};
+ghost use Rattle.replies.specs.Numbers.{success, invalidField, notSaveable, tooShort, tooManyRequests};
 ghost use Rattle.replies.specs.Status.{line, firstOf};
 ghost use Rattle.commands.specs.Commands.{save, select};
 ghost use Rattle.commands.specs.Shapes.{kindOf, needsIn, needsOut};
-ghost use Rattle.commands.specs.StatusTable.{partWrong, earlyLines, unknownNumber, selectOf, isOff, windowWrong, shortLine, selectsEarly, lateLines};
+ghost use Rattle.commands.specs.StatusTable.{partWrong, earlyLines, unknownNumber, selectOf, isOff, windowWrong, shortLine, requestLine, selectsEarly, lateLines};
+ghost use Rattle.commands.specs.declared.Kind.{Kind};
+ghost use Prim.Native.Nat.{ℕ};
 use crate::Command;
 use crate::DWORD;
 use crate::Kind;
@@ -27,6 +29,7 @@ use crate::shapes::needs_out;
 use crate::shapes::shape_of;
 use crate::window_cause;
 use crate::window_value;
+use desk::REQUESTS;
 use octets::casts::from_size;
 use record::Attributes;
 use record::State;
@@ -37,6 +40,7 @@ use replies::numbers::INVALID_OPCODE;
 use replies::numbers::NOT_SAVEABLE;
 use replies::numbers::SUCCESS;
 use replies::numbers::TOO_EARLY;
+use replies::numbers::TOO_MANY_REQUESTS;
 use replies::numbers::TOO_SHORT;
 use rules::Cause;
 use rules::changes::refuses;
@@ -72,6 +76,12 @@ fn fields_status(s: Shape, k: Kind, c: Command) -> u16
     replies::first(&tests, &[NOT_SAVEABLE, INVALID_FIELD])
 }
 
+fn has_choice(s: Shape, choice: u32) -> bool
+    ensures { λ r. ⌜ r ≡ (not (s .chooses) || eqb choice (s .choice)) ⌝ }
+{
+    !s.chooses | (choice == s.choice)
+}
+
 // The rows before the set is looked up. Where the command is not listed, its kind has another opcode, or another FID, CNS or page.
 pub fn early_status(k: Kind, c: Command) -> u16
     requires { ⌜ k ≡ kindOf c ⌝ }
@@ -82,7 +92,7 @@ pub fn early_status(k: Kind, c: Command) -> u16
     let choice = chosen_by(c);
     if c.whole {
         if opcode == s.opcode {
-            if choice == s.choice {
+            if has_choice(s, choice) {
                 return fields_status(s, k, c);
             }
             if opcode == LOG {
@@ -205,4 +215,18 @@ pub fn view_status(early: u16, k: Kind, c: Command, given: usize, room: usize) -
     ensures { λ r. ⌜ r ≡ firstOf (earlyLines c ++ shortLine k c given room ∷ []) ⌝ }
 {
     above(early, short_status(too_short(k, c, given, room)))
+}
+
+fn full_status(full: bool) -> u16
+    ensures { λ r. ⌜ r ≡ (if full then tooManyRequests else success) ⌝ }
+{
+    if full { TOO_MANY_REQUESTS } else { SUCCESS }
+}
+
+// A request needs no data and no room; `waiting`: so many wait already.
+pub fn request_status(early: u16, c: Command, waiting: u64) -> u16
+    requires { ⌜ early ≡ firstOf (earlyLines c) ⌝ }
+    ensures { λ r. ⌜ ((given room : ℕ) → r ≡ firstOf (earlyLines c ++ shortLine Kind.EventRequest c given room ∷ requestLine Kind.EventRequest waiting ∷ [])) ⌝ }
+{
+    above(early, full_status(REQUESTS <= waiting))
 }

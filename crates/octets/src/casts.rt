@@ -1,6 +1,7 @@
 // A number as another type that holds it. Casts of a parameter ask for no proof, those of a result do: so each cast is a function.
 ghost use mathlib.Core.Path.{_≡_};
-ghost use Prim.Native.Nat.{_<_};
+ghost use Prim.Native.Nat.{_<_, _≤_};
+ghost use Rattle.octets.specs.Choice.{bit};
 
 pub fn from_byte(n: u8) -> u64
     ensures { λ r. ⌜ (r ≡ n) × (r < 256) ⌝ }
@@ -36,4 +37,10 @@ pub fn to_index(n: u32) -> usize
     ensures { λ r. ⌜ r ≡ n ⌝ }
 {
     n as usize
+}
+
+pub fn bit_of(b: bool) -> u64
+    ensures { λ r. ⌜ (r ≡ bit b) × (r ≤ 1) ⌝ }
+{
+    if b { 1 } else { 0 }
 }

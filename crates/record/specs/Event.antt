@@ -3,6 +3,7 @@ use Prim.Native.Nat.{ℕ, _+_, _*_, _-_, _/_, _%_, _^_}
 use mathlib.Core.Bool.{Bool, true, false, not, _&&_, _||_}
 use lib.Dec.{ltb, leb, eqb}
 use Rattle.octets.specs.Choice.{if_then_else_}
+pub use Rattle.octets.specs.Choice.{bit}
 use Rattle.record.specs.declared.Attributes.{Attributes}
 use Rattle.record.specs.declared.Quantity.{Quantity}
 use Rattle.record.specs.declared.Quantity.the-variants.{Reads, Writes, Time}
@@ -39,10 +40,6 @@ noEvents = eventsOf false false false false false
 
 abbrev pub someEvent : Events → Bool
 someEvent e = e .reads || e .writes || e .time || e .exceeded || e .excursion
-
--- a bit's number
-abbrev pub bit : Bool → ℕ
-bit b = if b then 1 else 0
 
 -- as 16 bits: on pages, in the table, and in Set Features 13h
 abbrev pub bitsOf : Events → ℕ
@@ -121,3 +118,7 @@ settled r e =
 -- an effect without event or clearing read, which leaves the notes as they are
 abbrev pub isSilent : Effect → Bool
 isSilent e = not (someEvent (e .happened)) && not (e .clears)
+
+-- ---- 02: "When an item lists one or more sets that weren't listed": a set's record before an item, and after it
+abbrev pub newlyListed : Record → Record → Bool
+newlyListed r x = not (r .notes .listed) && x .notes .listed

@@ -1,7 +1,7 @@
 // Estimates, warnings, and the one place that writes events and the listed mark.
 ghost use mathlib.Core.Path.{_≡_};
 ghost use Prim.Native.Nat.{_<_, _≤_};
-ghost use Rattle.record.specs.Event.{estimate, bit, bitsOf, eventsIn, eventsOf, noEvents, someEvent, warning, warns, startsBelow, enteringD, andExceeded, anExcursion, anyEnabled, joined, settled, isSilent};
+ghost use Rattle.record.specs.Event.{estimate, bitsOf, eventsIn, eventsOf, noEvents, someEvent, warning, warns, startsBelow, enteringD, andExceeded, anExcursion, anyEnabled, joined, settled, isSilent, newlyListed};
 use crate::Attributes;
 use crate::Config;
 use crate::Effect;
@@ -17,6 +17,7 @@ use crate::quantities::limit_of;
 use crate::quantities::need_of;
 use crate::quantities::spent_of;
 use crate::quantities::threshold_of;
+use octets::casts::bit_of;
 
 // The bits of ENEV and of the event type.
 const READS: u64 = 0x0001;
@@ -42,12 +43,6 @@ pub fn estimate_of(a: Attributes, s: State, q: Quantity) -> u64
         Window::D => floored(most, count),
         Window::N => { if s.recovery.time == need { most } else { 0 } }
     }
-}
-
-pub fn bit_of(b: bool) -> u64
-    ensures { λ r. ⌜ (r ≡ bit b) × (r ≤ 1) ⌝ }
-{
-    if b { 1 } else { 0 }
 }
 
 // As 16 bits, and back: bits that stand for no event are not looked at.
@@ -199,4 +194,11 @@ pub fn settle(r: Record, e: Effect) -> Record
     s.state = state;
     s.notes = notes;
     s
+}
+
+// Whether a set was listed by what came between.
+pub fn newly_listed(r: Record, x: Record) -> bool
+    ensures { λ b. ⌜ b ≡ newlyListed r x ⌝ }
+{
+    !r.notes.listed & x.notes.listed
 }

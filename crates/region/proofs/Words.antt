@@ -4,22 +4,29 @@ use mathlib.Core.List.{List}
 use Prim.Native.Nat.{ℕ, _+_, _*_, _-_, _/_, _≤_, _<_}
 use native.Mathlib.Omega.{arith}
 use lib.ListN.{length, getD, take, drop, drop-of-length-le}
+use lib.Seq.{sets}
 use Rattle.octets.specs.Octets.{numberOf, part, AllBytes}
 use Rattle.octets.specs.Words.{wordSize, AllWords, wordsFrom, putWords}
 use Rattle.octets.proofs.WordBytes.{length-words, own-words, length-put-words}
 use Rattle.octets.proofs.InPlace.{words-back, words-read, word-of, first-words, later-words, rest-words, put-within, put-part}
 use Rattle.table.specs.Layout.{rowWords}
-use Rattle.table.specs.Table.{rowStart, row, put}
+use Rattle.table.specs.Table.{Tells, rowStart, row, put}
 use Rattle.table.proofs.Slots.{length-row}
-use Rattle.region.specs.Region.{tableIn, tableOut}
+use Rattle.replies.specs.declared.Notice.{Notice}
+use Rattle.desk.specs.Desk.{Told}
+use Rattle.region.specs.Region.{tableIn, tableOut, TellsAt}
 
 -- ---- reading
 
+-- a run of words from one of them on
+pub part-in : (b : List ℕ) (k n from : ℕ) → k + n ≤ length b / wordSize → from ≡ k * wordSize → wordsFrom b from n ≡ part (tableIn b) k n
+part-in b k n from h e =
+    let q : 0 + k * wordSize ≡ from = omega (arith, e) in
+    sym (later-words b 0 (length b / wordSize) k n (omega arith) ∙ ap (λ (x : ℕ). wordsFrom b x n) q)
+
 pub row-in : (b : List ℕ) (slot from : ℕ) → rowStart (slot + 1) ≤ length b / wordSize → from ≡ rowStart slot * wordSize
     → wordsFrom b from rowWords ≡ row (tableIn b) slot
-row-in b slot from h e =
-    let q : 0 + rowStart slot * wordSize ≡ from = omega (arith, e) in
-    sym (later-words b 0 (length b / wordSize) (rowStart slot) rowWords (omega arith) ∙ ap (λ (x : ℕ). wordsFrom b x rowWords) q)
+row-in b slot from h e = part-in b (rowStart slot) rowWords from (omega arith) e
 
 pub word-in : (b : List ℕ) (k from : ℕ) → k < length b / wordSize → from ≡ k * wordSize → numberOf (part b from wordSize) ≡ getD (tableIn b) k 0
 word-in b k from h e =
@@ -31,11 +38,15 @@ length-in b = length-words b 0 (length b / wordSize)
 
 -- ---- writing
 
+-- a run of words put from one of them on
+pub run-out : (b xs : List ℕ) (k from : ℕ) → AllBytes b → k + length xs ≤ length b / wordSize → from ≡ k * wordSize → putWords b from xs ≡ tableOut b (sets (tableIn b) k xs)
+run-out b xs k from each h e =
+    let q : 0 + k * wordSize ≡ from = omega (arith, e) in
+    sym (put-within xs b 0 (length b / wordSize) k each (omega arith) (omega arith) ∙ ap (λ (x : ℕ). putWords b x xs) q)
+
 pub row-out : (b xs : List ℕ) (slot from : ℕ) → AllBytes b → length xs ≡ rowWords → rowStart (slot + 1) ≤ length b / wordSize → from ≡ rowStart slot * wordSize
     → putWords b from xs ≡ tableOut b (put (tableIn b) slot xs)
-row-out b xs slot from each n h e =
-    let q : 0 + rowStart slot * wordSize ≡ from = omega (arith, e) in
-    sym (put-within xs b 0 (length b / wordSize) (rowStart slot) each (omega (arith, n)) (omega arith) ∙ ap (λ (x : ℕ). putWords b x xs) q)
+row-out b xs slot from each n h e = run-out b xs (rowStart slot) from each (omega (arith, n)) e
 
 -- the same where the row holds its words before one place and from another on already
 pub part-out :
@@ -74,3 +85,8 @@ table-back b ws e fit =
 
 pub words-in : (b : List ℕ) → AllBytes b → AllWords (tableIn b)
 words-in b each = words-read b each 0 (length b / wordSize)
+
+-- ---- the desk
+
+pub tells-at : (b : List ℕ) (t : Told) (vs after : List ℕ) (n : Notice) → Tells (tableIn b) t vs n → after ≡ tableOut b vs → TellsAt b t after n
+tells-at b t vs after n h e = record { desk = e ∙ ap (tableOut b) (h .desk); sent = h .sent }

@@ -5,9 +5,11 @@ use mathlib.Core.List.{List, [], _∷_}
 use Prim.Native.Nat.{ℕ, suc, _+_, _*_, _/_, _≤_}
 use lib.ListN.{length}
 use Rattle.octets.specs.Words.{wordSize, wordsFrom, putWords}
+use Rattle.replies.specs.declared.Notice.{Notice}
+use Rattle.desk.specs.Desk.{Told}
 use Rattle.record.specs.declared.Record.{Record}
 use Rattle.table.specs.Layout.{wordsOf, recordOf}
-use Rattle.table.specs.Table.{rowStart, row, put, legalRow}
+use Rattle.table.specs.Table.{withDesk, rowStart, row, put, legalRow}
 
 -- the words of a region: of a length that is no multiple of 8 the whole words count, and the rest is past the table
 abbrev pub tableIn : List ℕ → List ℕ
@@ -47,3 +49,10 @@ pub record Silent (r x : Record) : Type 0 where
 abbrev pub withRecords : List ℕ → ℕ → List Record → List ℕ
 withRecords region slot [] = region
 withRecords region slot (r ∷ rs) = withRecords (putWords region (rowStart slot * wordSize) (wordsOf r)) (suc slot) rs
+
+-- ---- the desk
+
+-- the desk after an item, in its place, and the notice that goes out
+pub record TellsAt (region : List ℕ) (t : Told) (after : List ℕ) (notice : Notice) : Type 0 where
+  pub desk : after ≡ tableOut region (withDesk (tableIn region) (t .desk))
+  pub sent : notice ≡ t .notice

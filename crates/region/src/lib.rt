@@ -1,15 +1,18 @@
 // The card's table where it lies, in a region of bytes that C lends: legality, the search for a set, one slot loaded and stored.
 // Each promises of the region's words what the function of that name in `table` promises of a slice of words.
 ghost use mathlib.Core.Path.{_≡_};
+ghost use mathlib.Core.Bool.{false};
 ghost use Prim.Native.Nat.{_+_, _*_, _/_, _<_, _≤_};
 ghost use mathlib.Core.List.{map};
 ghost use lib.ListN.{length, getD, replicate};
 ghost use lib.Seq.{sets};
 ghost use Rattle.octets.specs.Words.{wordSize};
 ghost use Rattle.record.specs.Parts.{idOf};
-ghost use Rattle.table.specs.Card.{headerWords};
-ghost use Rattle.table.specs.Table.{count, rowStart, row, rows, sized, legalRows, legalTable, Legal, recordsOf, findIn, enterIn, listedWord, maxSets};
-ghost use Rattle.region.specs.Region.{tableIn, recordAt, withRecord, LegalAt, Moved, Silent};
+ghost use Rattle.desk.specs.Desk.{queued, turned, lifted, settle, requestsMaximum};
+ghost use Rattle.table.specs.Card.{headerWords, deskStart};
+ghost use Rattle.table.specs.Table.{deskPart, deskAt, withDesk, DeskThere, count, rowStart, row, rows, sized, legalRows, legalTable, Legal, recordsOf, findIn, enterIn, listedWord, maxSets};
+ghost use Rattle.region.specs.Region.{tableIn, tableOut, recordAt, withRecord, LegalAt, Moved, Silent, TellsAt};
+use desk::DESK;
 use octets::casts::to_size;
 use octets::words::WORD;
 use octets::words::word_at;
@@ -18,9 +21,11 @@ use octets::words::words_out;
 use record::Record;
 use record::SetId;
 use record::Slot;
+use replies::Notice;
 use table::Entry;
 use table::Found;
 use table::MAX_SETS;
+use table::layout::DESK_START;
 use table::layout::HEADER;
 use table::layout::LAYOUT;
 use table::layout::LISTED;
@@ -103,6 +108,73 @@ pub fn count_of(bytes: &[u8]) -> usize
     to_size(word_of(bytes, 1))
 }
 
+// The desk's words.
+pub fn desk_of(bytes: &[u8]) -> [u64; DESK]
+    requires { ⌜ headerWords ≤ length (now bytes) / wordSize ⌝ }
+    ensures { λ r. ⌜ r ≡ deskPart (tableIn (now (bytes .entry))) ⌝ }
+{
+    let mut a = [0u64; DESK];
+    words_in(bytes, WORD * DESK_START, &mut a);
+    a
+}
+
+fn put_desk(bytes: &mut [u8], a: [u64; DESK])
+    requires { ⌜ headerWords ≤ length (now bytes) / wordSize ⌝ }
+    ensures { λ _. ⌜ now (bytes .exit) ≡ tableOut (now (bytes .entry)) (sets (tableIn (now (bytes .entry))) deskStart a) ⌝ }
+{
+    words_out(&a, bytes, WORD * DESK_START);
+}
+
+// ---- the end of an item: what it does to the desk, and the notice that goes beside its answer
+
+// `new`: it has listed a set that was not listed. Where it has not, a legal desk stays as it is.
+pub fn settle(bytes: &mut [u8], new: bool) -> Notice
+    requires { ⌜ DeskThere (tableIn (now bytes)) ⌝ }
+    ensures { λ r. ⌜ TellsAt (now (bytes .entry)) (settle new (deskAt (tableIn (now (bytes .entry))))) (now (bytes .exit)) r ⌝ }
+{
+    if new {
+        let s = desk::settle(desk_of(bytes), true);
+        let words = s.words;
+        let notice = s.notice;
+        put_desk(bytes, words);
+        return notice;
+    }
+    Notice::Unsent
+}
+
+// A request that arrives.
+pub fn queue(bytes: &mut [u8], id: u16) -> Notice
+    requires { ⌜ DeskThere (tableIn (now bytes)) × (length (deskAt (tableIn (now bytes)) .waiting) < requestsMaximum) ⌝ }
+    ensures { λ r. ⌜ TellsAt (now (bytes .entry)) (settle false (queued id (deskAt (tableIn (now (bytes .entry)))))) (now (bytes .exit)) r ⌝ }
+{
+    let s = desk::queue_and_settle(desk_of(bytes), id);
+    let words = s.words;
+    let notice = s.notice;
+    put_desk(bytes, words);
+    notice
+}
+
+// Feature 0Bh.
+pub fn turn(bytes: &mut [u8], on: bool) -> Notice
+    requires { ⌜ DeskThere (tableIn (now bytes)) ⌝ }
+    ensures { λ r. ⌜ TellsAt (now (bytes .entry)) (settle false (turned on (deskAt (tableIn (now (bytes .entry)))))) (now (bytes .exit)) r ⌝ }
+{
+    let s = desk::turn_and_settle(desk_of(bytes), on);
+    let words = s.words;
+    let notice = s.notice;
+    put_desk(bytes, words);
+    notice
+}
+
+// A read of page 0Bh with Retain 0.
+pub fn lift(bytes: &mut [u8])
+    requires { ⌜ DeskThere (tableIn (now bytes)) ⌝ }
+    ensures { λ _. ⌜ now (bytes .exit) ≡ tableOut (now (bytes .entry)) (withDesk (tableIn (now (bytes .entry))) (lifted (deskAt (tableIn (now (bytes .entry)))))) ⌝ }
+{
+    let words = desk::lift(desk_of(bytes));
+    put_desk(bytes, words);
+}
+
 fn fits(bytes: &[u8]) -> bool
     ensures { λ r. ⌜ r ≡ sized (tableIn (now (bytes .entry))) ⌝ }
 {
@@ -136,10 +208,11 @@ pub fn legal(bytes: &[u8]) -> bool
     ensures { λ r. ⌜ r ≡ legalTable (tableIn (now (bytes .entry))) ⌝ }
 {
     if fits(bytes) {
-        rows_legal(bytes, count_of(bytes))
-    } else {
-        false
+        if desk::legal(desk_of(bytes)) {
+            return rows_legal(bytes, count_of(bytes));
+        }
     }
+    false
 }
 
 // The identifier's word of a slot.

@@ -13,6 +13,10 @@ invalidOpcode = 0x0001
 abbrev pub invalidField : ℕ
 invalidField = 0x0002
 
+-- 02: "a fifth gets 0105h": as many requests wait as may
+abbrev pub tooManyRequests : ℕ
+tooManyRequests = 0x0105
+
 -- log page not listed
 abbrev pub invalidLogPage : ℕ
 invalidLogPage = 0x0109
@@ -48,3 +52,7 @@ tickTooLong = 0x07C5
 -- command not of 64 bytes
 abbrev pub badCommandLength : ℕ
 badCommandLength = 0x07C7
+
+-- 02: "each answered 07C8h (waiting, no refusal)"
+abbrev pub requestWaits : ℕ
+requestWaits = 0x07C8

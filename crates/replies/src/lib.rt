@@ -6,13 +6,24 @@ ghost use Prim.Native.Nat.{_≤_};
 ghost use lib.ListN.{length};
 ghost use Rattle.octets.specs.Octets.{padded};
 ghost use Rattle.replies.specs.Status.{firstOf, linesOf};
-ghost use Rattle.replies.specs.Answers.{answered, refusing, giving, done, Replied};
+ghost use Rattle.replies.specs.Answers.{answered, refusing, giving, done, awaiting, besideOf, toldNo, toNo, noticeNo, Replied};
+use crate::numbers::REQUEST_WAITS;
 use crate::numbers::SUCCESS;
+
+// What may go beside an answer: nothing, or a notice, which completes the waiting request with this identifier.
+pub enum Notice {
+    Unsent,
+    To(u16),
+}
+
+// Dword 0 of a notice: read log page 0Bh.
+pub const NOTICE: u32 = 0x000B0402;
 
 pub struct Reply {
     pub status: u16,
     pub dword: u32,
     pub len: usize,
+    pub notice: Notice,
 }
 
 // The number of the first test that holds, or 0. A table with a number missing is refused by the prover.
@@ -37,6 +48,7 @@ pub fn refuse(status: u16) -> Reply
         status,
         dword: 0,
         len: 0,
+        notice: Notice::Unsent,
     }
 }
 
@@ -48,6 +60,7 @@ pub fn give(dword: u32, len: usize) -> Reply
         status: SUCCESS,
         dword,
         len,
+        notice: Notice::Unsent,
     }
 }
 
@@ -56,6 +69,58 @@ pub fn done() -> Reply
     ensures { λ r. ⌜ r ≡ done ⌝ }
 {
     give(0, 0)
+}
+
+// A request that waits: carried out, with a number of its own.
+pub fn awaiting() -> Reply
+    ensures { λ r. ⌜ r ≡ awaiting ⌝ }
+{
+    Reply {
+        status: REQUEST_WAITS,
+        dword: 0,
+        len: 0,
+        notice: Notice::Unsent,
+    }
+}
+
+// The same reply, with this notice beside it.
+pub fn beside(r: Reply, notice: Notice) -> Reply
+    ensures { λ x. ⌜ x ≡ besideOf r notice ⌝ }
+{
+    Reply {
+        status: r.status,
+        dword: r.dword,
+        len: r.len,
+        notice: notice,
+    }
+}
+
+// A notice as numbers: whether there is one, its request's identifier, and its dword 0.
+pub fn told_no(notice: Notice) -> u16
+    ensures { λ r. ⌜ r ≡ toldNo notice ⌝ }
+{
+    match notice {
+        Notice::Unsent => 0,
+        Notice::To(id) => 1,
+    }
+}
+
+pub fn to_no(notice: Notice) -> u16
+    ensures { λ r. ⌜ r ≡ toNo notice ⌝ }
+{
+    match notice {
+        Notice::Unsent => 0,
+        Notice::To(id) => id,
+    }
+}
+
+pub fn notice_no(notice: Notice) -> u32
+    ensures { λ r. ⌜ r ≡ noticeNo notice ⌝ }
+{
+    match notice {
+        Notice::Unsent => 0,
+        Notice::To(id) => NOTICE,
+    }
 }
 
 // A refusal, which writes nothing, or n bytes of a page from place `from`: the one way in which data goes out.

@@ -5,6 +5,8 @@ pub const INVALID_OPCODE: u16 = 0x0001;
 
 pub const INVALID_FIELD: u16 = 0x0002;
 
+pub const TOO_MANY_REQUESTS: u16 = 0x0105;
+
 pub const INVALID_LOG_PAGE: u16 = 0x0109;
 
 pub const NOT_SAVEABLE: u16 = 0x010D;
@@ -22,3 +24,5 @@ pub const BAD_SET_UP: u16 = 0x07C4;
 pub const TICK_TOO_LONG: u16 = 0x07C5;
 
 pub const BAD_COMMAND_LENGTH: u16 = 0x07C7;
+
+pub const REQUEST_WAITS: u16 = 0x07C8;

@@ -7,7 +7,7 @@ use native.Mathlib.Omega.{arith}
 use native.Mathlib.Nat.{not-suc-le-zero, zero-add}
 use borrow.Author.Tests.{leb-true, eqb-true, le-leb, lt-leb, lt-ltb}
 use lib.Dec.{ltb, leb, eqb}
-use lib.ListN.{length, getD, length-map, List·getD-eq-default}
+use lib.ListN.{length, getD, length-map, length-take, length-drop}
 use Rattle.octets.proofs.JoinedTests.{both}
 use Rattle.record.specs.declared.Record.{Record}
 use Rattle.record.specs.Legal.{inRange, legalRecord}
@@ -18,8 +18,10 @@ use Rattle.table.specs.declared.Found.the-variants.{At, Nothing}
 use Rattle.table.specs.declared.Entry.the-variants.{Bad, Unknown, Here}
 use Rattle.table.specs.Layout.{wordsOf, recordOf}
 use Rattle.record.specs.Parts.{idOf}
+use Rattle.desk.specs.Words.{deskLegal, WordsOfDesk}
+use Rattle.desk.proofs.LegalDesks.{legal-words}
 use Rattle.table.specs.Card.{layoutNumber, headerWords}
-use Rattle.table.specs.Table.{layout, count, rowStart, row, rows, recordsOf, legalRow, legalAfter, legalRows, legalSets, roomFor, sized, extentOf, legalTable, Legal, findIn, entryOf, enterIn, maxSets}
+use Rattle.table.specs.Table.{layout, count, deskPart, DeskThere, rowStart, row, rows, recordsOf, legalRow, legalAfter, legalRows, legalSets, roomFor, sized, extentOf, legalTable, Legal, findIn, entryOf, enterIn, maxSets}
 use Rattle.table.proofs.Records.{Row, row-of, words-legal, record-back}
 use Rattle.table.proofs.Slots.{rows-at, length-rows}
 
@@ -51,17 +53,26 @@ some-extent n room = by (roomFor n room)
     by false = refl
 
 pub sized-short : (ws : List ℕ) → length ws < headerWords → sized ws ≡ false
-sized-short ws h = let l : length ws ≤ 1 = omega arith in let e : count ws ≡ 0 = simp List·getD-eq-default in rw (e, and-false)
+sized-short ws h = rw (lt-leb (rowStart (count ws)) (length ws) (omega arith), and-false, and-false)
 
 pub legal-known : (ws : List ℕ) → legalTable ws ≡ true → Legal ws
 unfolding legalTable
 legal-known ws h =
-    let s = sized-known ws (both (sized ws) _ h .0) in
-    record { known = s .known; some = s .some; few = s .few; room = s .room; legal = h }
+    let p = both (sized ws && deskLegal (deskPart ws)) _ h in
+    let q = both (sized ws) _ (p .0) in
+    let s = sized-known ws (q .0) in
+    record { known = s .known; some = s .some; few = s .few; room = s .room; desk = q .1; legal = h }
+
+pub desk-there : (ws : List ℕ) → Legal ws → DeskThere ws
+desk-there ws l = record { room = omega (arith, l .room); legal = l .desk }
+
+-- the words of its desk
+pub desk-words : (ws : List ℕ) → DeskThere ws → WordsOfDesk (deskPart ws)
+desk-words ws t = legal-words (deskPart ws) (simp (length-take, length-drop) (omega (arith, t .room))) (t .legal)
 
 pub rows-known : (ws : List ℕ) → Legal ws → legalRows 0 (rows ws) ≡ true
 unfolding legalTable
-rows-known ws l = both (sized ws) _ (l .legal) .1
+rows-known ws l = both (sized ws && deskLegal (deskPart ws)) _ (l .legal) .1
 
 legal-at : (p k : ℕ) (rs : List (List ℕ)) → legalRows p rs ≡ true → k < length rs → legalRow (getD rs k []) ≡ true
 legal-at p k [] h l = absurd (not-suc-le-zero l)

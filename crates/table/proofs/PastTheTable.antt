@@ -13,10 +13,12 @@ use Rattle.octets.proofs.Runs.{sets-append, part-append}
 use Rattle.record.specs.declared.Record.{Record}
 use Rattle.record.specs.Legal.{inRange}
 use Rattle.table.specs.Layout.{rowWords, wordsOf, recordOf}
-use Rattle.table.specs.Card.{Card, header}
-use Rattle.table.specs.Table.{layout, count, rowStart, row, put, rowsFrom, rows, recordsOf, sized, legalRows, legalTable, writtenFrom, writtenRows, written, maxSets}
+use Rattle.table.specs.Card.{Card, cardWith, deskStart, header}
+use Rattle.table.specs.Table.{layout, count, deskPart, cardOf, rowStart, row, put, rowsFrom, rows, recordsOf, sized, legalRows, legalTable, writtenFrom, writtenRows, written, maxSets}
 use Rattle.table.proofs.Records.{length-words}
+use Rattle.desk.specs.Words.{deskSize, deskLegal}
 use Rattle.table.proofs.Slots.{length-put}
+use Rattle.table.proofs.Desks.{same-desk}
 
 -- some words, and what lies past them
 module _ (past : List ℕ) where
@@ -48,9 +50,15 @@ module _ (past : List ℕ) where
     all-past : rows (ws ++ past) ≡ rows ws
     all-past = ap (rowsFrom (ws ++ past) 0) count-past ∙ rows-past ws 0 (count ws) (rw (zero-add (count ws)) room)
 
-    pub records-past : recordsOf (ws ++ past) ≡ recordsOf ws
+    records-past : recordsOf (ws ++ past) ≡ recordsOf ws
     unfolding recordsOf
     records-past = ap (map recordOf) all-past
+
+    desk-past : deskPart (ws ++ past) ≡ deskPart ws
+    desk-past = part-append ws past deskStart deskSize (omega arith)
+
+    pub card-past : cardOf (ws ++ past) ≡ cardOf ws
+    card-past = ap₂ cardWith records-past (same-desk ws (ws ++ past) desk-past)
 
     sized-past : sized (ws ++ past) ≡ sized ws
     sized-past =
@@ -59,4 +67,4 @@ module _ (past : List ℕ) where
 
     pub legal-past : legalTable (ws ++ past) ≡ legalTable ws
     unfolding legalTable
-    legal-past = ap₂ _&&_ sized-past (ap (legalRows 0) all-past)
+    legal-past = ap₂ _&&_ (ap₂ _&&_ sized-past (ap deskLegal desk-past)) (ap (legalRows 0) all-past)

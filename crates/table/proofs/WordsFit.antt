@@ -5,11 +5,14 @@ use mathlib.Core.List.{List, [], _∷_, map}
 use Prim.Native.Nat.{ℕ, zero, suc, _%_, _^_, _≤_, _<_}
 use native.Mathlib.Omega.{arith}
 use native.Mathlib.Nat.{mod-lt}
-use lib.Dec.{lit<}
-use lib.ListN.{length}
+use borrow.Author.Tests.{leb-true}
+use lib.Dec.{lit<, leb}
+use lib.ListN.{length, getD}
 use lib.Seq.{sets}
 use Rattle.octets.specs.Words.{AllWords}
-use Rattle.octets.proofs.Below.{each-below, sets-below, part-below}
+use Rattle.octets.proofs.Below.{Each, each-below, sets-below, part-below}
+use Rattle.desk.specs.Desk.{requestsMaximum, identifierMaximum, allIdentifiers, legalDesk}
+use Rattle.desk.proofs.LegalDesks.{fine}
 use Rattle.octets.proofs.JoinedTests.{both}
 use Rattle.record.specs.declared.Events.{Events}
 use Rattle.record.specs.declared.Window.{Window}
@@ -170,8 +173,22 @@ from-fit : (ws : List ℕ) (j : ℕ) (rs : List Record) → AllWords ws → AllF
 from-fit ws j [] each fit = each
 from-fit ws j (r ∷ rs) each fit = from-fit (put ws j (wordsOf r)) (suc j) rs (sets-below (2 ^ 64) (wordsOf r) ws (rowStart j) (fit .0) each) (fit .1)
 
-pub written-fit : (ws : List ℕ) (c : Card) → AllWords ws → length (c .sets) < 2 ^ 64 → AllFit (c .sets) → AllWords (written ws c)
+-- an identifier is a word, and so is what stands where there is none
+id-small : (ids : List ℕ) (k : ℕ) → allIdentifiers ids ≡ true → getD ids k 0 < 2 ^ 64
+id-small [] k h = lit< tt
+id-small (x ∷ xs) zero h = let l = leb-true x identifierMaximum (both (leb x identifierMaximum) (allIdentifiers xs) h .0) in omega arith
+id-small (x ∷ xs) (suc k) h = id-small xs k (both (leb x identifierMaximum) (allIdentifiers xs) h .1)
+
+header-fit : (c : Card) → length (c .sets) < 2 ^ 64 → legalDesk (c .desk) ≡ true → Each (2 ^ 64) (header c)
+header-fit c few h =
+    let d = c .desk in
+    let f = fine d h in
+    let n : length (d .waiting) < 2 ^ 64 = let l = leb-true (length (d .waiting)) requestsMaximum (f .few) in omega arith in
+    let id : (k : ℕ) → getD (d .waiting) k 0 < 2 ^ 64 = λ k. id-small (d .waiting) k (f .ids) in
+    (lit< tt, (few, (mark-small (d .on), (mark-small (d .masked), (mark-small (d .flag), (n, (id 0, (id 1, (id 2, (id 3, tt))))))))))
+
+pub written-fit : (ws : List ℕ) (c : Card) → AllWords ws → length (c .sets) < 2 ^ 64 → AllFit (c .sets) → legalDesk (c .desk) ≡ true → AllWords (written ws c)
 unfolding written writtenRows
-written-fit ws c each few fit =
+written-fit ws c each few fit h =
     from-fit (sets ws 0 (header c)) 0 (c .sets)
-    (sets-below (2 ^ 64) (header c) ws 0 (each-below (2 ^ 64) (lit< tt) (header c) (lit< tt, (few, tt))) each) fit
+    (sets-below (2 ^ 64) (header c) ws 0 (each-below (2 ^ 64) (lit< tt) (header c) (header-fit c few h)) each) fit

@@ -11,16 +11,21 @@ use lib.Dec.{ltb, leb}
 use lib.ListN.{length, set, getD, drop, length-set}
 use lib.Seq.{sets, length-sets, set-getD, getD-set-same, getD-set-other}
 use Rattle.octets.proofs.JoinedTests.{both, together}
-use Rattle.octets.proofs.Runs.{drop-sets}
+use mathlib.Core.Logic.{inl}
+use Rattle.octets.proofs.Runs.{drop-sets, getD-sets}
+use Rattle.desk.specs.Desk.{legalDesk}
+use Rattle.desk.specs.Words.{deskWords, deskIn, deskLegal}
+use Rattle.desk.proofs.LegalDesks.{legal-desks}
 use Rattle.record.specs.declared.Record.{Record}
 use Rattle.record.specs.Legal.{inRange, legalRecord}
 use Rattle.record.specs.Parts.{idOf}
 use Rattle.table.specs.Layout.{wordsOf, recordOf}
-use Rattle.table.specs.Card.{Card, layoutNumber, headerWords, header}
-use Rattle.table.specs.Table.{layout, count, rowStart, row, put, rowsFrom, rows, recordsOf, cardOf, legalSets, sized, legalTable, Legal, writtenFrom, writtenRows, written, maxSets}
+use Rattle.table.specs.Card.{Card, cardWith, layoutNumber, headerWords, deskStart, header}
+use Rattle.table.specs.Table.{layout, count, deskPart, deskAt, withDesk, rowStart, row, put, rowsFrom, rows, recordsOf, cardOf, legalSets, sized, legalTable, Legal, writtenFrom, writtenRows, written, maxSets}
 use Rattle.table.proofs.Records.{Row, length-words, record-back}
 use Rattle.table.proofs.Slots.{put-self, length-put, header-put, rest-put, row-same, row-other, rows-other}
-use Rattle.table.proofs.LegalTables.{slot-known, length-records, rows-of-sets}
+use Rattle.table.proofs.LegalTables.{desk-there, slot-known, length-records, rows-of-sets}
+use Rattle.table.proofs.Desks.{desk-stays, rows-apart, desk-from, desk-held}
 use Rattle.table.proofs.Turns.{later, later-none, later-more, later-all}
 
 -- ---- records written where they came from, and one of them changed
@@ -56,26 +61,39 @@ one-written ws j (suc k) (suc m) r l h o =
 own-all : (ws : List ℕ) → Legal ws → Own ws 0 (count ws)
 own-all ws l i p q = slot-known ws l i (omega arith)
 
--- a card with as many sets leaves the header of a legal table as it is
-pub header-stays : (ws : List ℕ) → Legal ws → (c : Card) → length (c .sets) ≡ count ws → written ws c ≡ writtenRows ws (c .sets)
-unfolding written
+-- a card with as many sets leaves the header of a legal table as it is, but for the desk
+pub header-stays : (ws : List ℕ) → Legal ws → (c : Card) → length (c .sets) ≡ count ws → written ws c ≡ withDesk (writtenRows ws (c .sets)) (c .desk)
+unfolding written withDesk
 header-stays ws l c e =
-    ap (λ (v : List ℕ). writtenRows v (c .sets))
+    ap (λ (v : List ℕ). writtenRows (sets v deskStart (deskWords (c .desk))) (c .sets))
     (ap₂ (λ (a b : ℕ). set (set ws 0 a) 1 b) (sym (l .known)) e ∙ ap (λ (v : List ℕ). set v 1 (count ws)) (set-getD ws 0 0) ∙ set-getD ws 1 0)
+    ∙ rows-apart ws (c .desk) (c .sets)
 
--- a legal table's own card, written back, changes nothing
+-- its own rows, and one of them changed
+rows-own : (ws : List ℕ) → Legal ws → writtenRows ws (recordsOf ws) ≡ ws
+unfolding writtenRows recordsOf
+rows-own ws l = own-written ws 0 (count ws) (rw (zero-add (count ws)) (l .room)) (own-all ws l)
+
+rows-one : (ws : List ℕ) → Legal ws → (k : ℕ) (r : Record) → k < count ws → writtenRows ws (set (recordsOf ws) k r) ≡ put ws k (wordsOf r)
+unfolding writtenRows recordsOf
+rows-one ws l k r h =
+    one-written ws 0 k (count ws) r h (rw (zero-add (count ws)) (l .room)) (own-all ws l) ∙ ap (λ (i : ℕ). put ws i (wordsOf r)) (zero-add k)
+
+-- a legal table's own sets, written back with a desk, are the table with that desk
+pub written-desk : (ws : List ℕ) → Legal ws → (c : Card) → c .sets ≡ recordsOf ws → written ws c ≡ withDesk ws (c .desk)
+written-desk ws l c e =
+    header-stays ws l c (ap length e ∙ length-records ws) ∙ ap (λ (v : List ℕ). withDesk v (c .desk)) (ap (writtenRows ws) e ∙ rows-own ws l)
+
+-- and its own card changes nothing
 pub written-own : (ws : List ℕ) → Legal ws → written ws (cardOf ws) ≡ ws
-unfolding writtenRows recordsOf
-written-own ws l = header-stays ws l (cardOf ws) (length-records ws) ∙ own-written ws 0 (count ws) (rw (zero-add (count ws)) (l .room)) (own-all ws l)
+written-own ws l = written-desk ws l (cardOf ws) refl ∙ desk-stays ws (desk-there ws l)
 
--- with one of its sets changed, it is the table with that slot put
-pub written-one : (ws : List ℕ) → Legal ws → (c : Card) (k : ℕ) (r : Record) → c .sets ≡ set (recordsOf ws) k r → k < count ws → written ws c ≡ put ws k (wordsOf r)
-unfolding writtenRows recordsOf
+-- with one of its sets changed, it is the table with that slot put, and the desk
+pub written-one : (ws : List ℕ) → Legal ws → (c : Card) (k : ℕ) (r : Record) → c .sets ≡ set (recordsOf ws) k r → k < count ws
+    → written ws c ≡ withDesk (put ws k (wordsOf r)) (c .desk)
 written-one ws l c k r e h =
     header-stays ws l c (ap length e ∙ length-set (recordsOf ws) k r ∙ length-records ws)
-    ∙ ap (writtenRows ws) e
-    ∙ one-written ws 0 k (count ws) r h (rw (zero-add (count ws)) (l .room)) (own-all ws l)
-    ∙ ap (λ (i : ℕ). put ws i (wordsOf r)) (zero-add k)
+    ∙ ap (λ (v : List ℕ). withDesk v (c .desk)) (ap (writtenRows ws) e ∙ rows-one ws l k r h)
 
 -- ---- a rule on every set: a turn of the loop
 
@@ -149,6 +167,7 @@ pub record Fitting (ws : List ℕ) (c : Card) : Type 0 where
   pub range : inRange maxSets (length (c .sets)) ≡ true
   pub legal : legalSets 0 (c .sets) ≡ true
   pub room : rowStart (length (c .sets)) ≤ length ws
+  pub desk : legalDesk (c .desk) ≡ true
 
 -- it is read back, the table is legal, and the words past it are as they were
 module _ (ws : List ℕ) (c : Card) (f : Fitting ws c) where
@@ -161,11 +180,22 @@ module _ (ws : List ℕ) (c : Card) (f : Fitting ws c) where
 
   headed-layout : layout headed ≡ layoutNumber
   unfolding headed
-  headed-layout = getD-set-other (set ws 0 layoutNumber) 1 0 (length (c .sets)) 0 (λ e. omega arith) ∙ getD-set-same ws 0 layoutNumber 0 (omega (arith, f .room))
+  headed-layout =
+      getD-sets (deskWords (c .desk)) (set (set ws 0 layoutNumber) 1 (length (c .sets))) deskStart 0 (inl (omega arith))
+      ∙ getD-set-other (set ws 0 layoutNumber) 1 0 (length (c .sets)) 0 (λ e. omega arith) ∙ getD-set-same ws 0 layoutNumber 0 (omega (arith, f .room))
 
   headed-count : count headed ≡ length (c .sets)
   unfolding headed
-  headed-count = getD-set-same (set ws 0 layoutNumber) 1 (length (c .sets)) 0 (omega (arith, f .room, length-set ws 0 layoutNumber))
+  headed-count =
+      getD-sets (deskWords (c .desk)) (set (set ws 0 layoutNumber) 1 (length (c .sets))) deskStart 1 (inl (omega arith))
+      ∙ getD-set-same (set ws 0 layoutNumber) 1 (length (c .sets)) 0 (omega (arith, f .room, length-set ws 0 layoutNumber))
+
+  headed-desk : deskPart headed ≡ deskWords (c .desk)
+  unfolding headed
+  headed-desk =
+      let v = set (set ws 0 layoutNumber) 1 (length (c .sets)) in
+      let n : length v ≡ length ws = length-set (set ws 0 layoutNumber) 1 (length (c .sets)) ∙ length-set ws 0 layoutNumber in
+      desk-held v (c .desk) (omega (arith, f .room, n))
 
   written-layout : layout (written ws c) ≡ layoutNumber
   unfolding written writtenRows headed
@@ -179,15 +209,28 @@ module _ (ws : List ℕ) (c : Card) (f : Fitting ws c) where
   unfolding written writtenRows headed
   written-rows = rw written-count (from-rows headed 0 (c .sets) (omega (arith, f .room, headed-long)))
 
-  pub written-back : cardOf (written ws c) ≡ c
+  desk-back : deskPart (written ws c) ≡ deskWords (c .desk)
+  unfolding written writtenRows headed
+  desk-back = desk-from headed 0 (c .sets) ∙ headed-desk
+
+  records-read : recordsOf (written ws c) ≡ c .sets
   unfolding recordsOf
-  written-back = ap (λ (rs : List Record). record { sets = rs }) (ap (map recordOf) written-rows ∙ records-back 0 (c .sets) (f .legal))
+  records-read = ap (map recordOf) written-rows ∙ records-back 0 (c .sets) (f .legal)
+
+  desk-read : deskAt (written ws c) ≡ c .desk
+  unfolding deskAt
+  desk-read = ap deskIn desk-back ∙ legal-desks (c .desk) (f .desk) .back
+
+  pub written-back : cardOf (written ws c) ≡ c
+  written-back = ap₂ cardWith records-read desk-read
 
   pub written-legal : legalTable (written ws c) ≡ true
   unfolding legalTable
   written-legal =
-      together (sized (written ws c)) _
+      together (sized (written ws c) && deskLegal (deskPart (written ws c))) _
+      (together (sized (written ws c)) _
       (rw (written-layout, written-count, length-written ws c, f .range) (le-leb _ _ (f .room)))
+      (ap deskLegal desk-back ∙ legal-desks (c .desk) (f .desk) .legal))
       (rw written-rows (rows-of-sets 0 (c .sets) (f .legal)))
 
   pub written-rest : drop (rowStart (length (c .sets))) (written ws c) ≡ drop (rowStart (length (c .sets))) ws
@@ -195,11 +238,12 @@ module _ (ws : List ℕ) (c : Card) (f : Fitting ws c) where
   written-rest =
       from-rest (sets ws 0 (header c)) 0 (length (c .sets)) (c .sets) (omega arith) ∙ drop-sets (header c) ws 0 (rowStart (length (c .sets))) (omega arith)
 
--- as many sets as a legal table has, legal and rising, fit there
-pub fitting : (ws : List ℕ) → Legal ws → (c : Card) → length (c .sets) ≡ count ws → legalSets 0 (c .sets) ≡ true → Fitting ws c
-fitting ws l c e h =
+-- as many sets as a legal table has, legal and rising, fit there with a legal desk
+pub fitting : (ws : List ℕ) → Legal ws → (c : Card) → length (c .sets) ≡ count ws → legalSets 0 (c .sets) ≡ true → legalDesk (c .desk) ≡ true → Fitting ws c
+fitting ws l c e h d =
     record {
       range = rw e (together (leb 1 (count ws)) _ (le-leb _ _ (l .some)) (le-leb _ _ (l .few)));
       legal = h;
       room = rw e (l .room);
+      desk = d;
     }

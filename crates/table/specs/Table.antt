@@ -1,6 +1,6 @@
 -- 01: "The table is a lent slice of 64-bit words": a header, then the sets, one row each. Words past it are not looked at.
 use mathlib.Core.Path.{_≡_}
-use mathlib.Core.Bool.{Bool, true, false, _&&_}
+use mathlib.Core.Bool.{Bool, true, false, _&&_, _||_}
 use mathlib.Core.List.{List, [], _∷_, map}
 use Prim.Native.Nat.{ℕ, zero, suc, _+_, _*_, _≤_}
 use lib.Dec.{ltb, leb, eqb}
@@ -8,16 +8,19 @@ use lib.ListN.{length, getD}
 use lib.Seq.{sets}
 use Rattle.octets.specs.Choice.{if_then_else_}
 use Rattle.octets.specs.Octets.{part}
+use Rattle.replies.specs.declared.Notice.{Notice}
+use Rattle.desk.specs.Desk.{Desk, Told}
+use Rattle.desk.specs.Words.{deskSize, deskWords, deskIn, deskLegal}
 use Rattle.record.specs.declared.Record.{Record}
 use Rattle.record.specs.Parts.{idOf}
-use Rattle.record.specs.Event.{bit}
+use Rattle.record.specs.Event.{bit, newlyListed}
 use Rattle.record.specs.Legal.{inRange, legalRecord}
 use Rattle.table.specs.declared.Found.{Found}
 use Rattle.table.specs.declared.Found.the-variants.{At, Nothing}
 use Rattle.table.specs.declared.Entry.{Entry}
 use Rattle.table.specs.declared.Entry.the-variants.{Bad, Unknown, Here}
 use Rattle.table.specs.Layout.{rowWords, wordsOf, recordOf}
-use Rattle.table.specs.Card.{Card, layoutNumber, headerWords, header}
+use Rattle.table.specs.Card.{Card, cardWith, layoutNumber, headerWords, deskStart, header}
 
 -- "Up to 31 sets."
 abbrev pub maxSets : ℕ
@@ -53,9 +56,19 @@ rows ws = rowsFrom ws 0 (count ws)
 unfoldable pub recordsOf : List ℕ → List Record
 recordsOf ws = map recordOf (rows ws)
 
+-- the desk's words, the desk that they hold, and the table with another one there
+abbrev pub deskPart : List ℕ → List ℕ
+deskPart ws = part ws deskStart deskSize
+
+unfoldable pub deskAt : List ℕ → Desk
+deskAt ws = deskIn (deskPart ws)
+
+unfoldable pub withDesk : List ℕ → Desk → List ℕ
+withDesk ws d = sets ws deskStart (deskWords d)
+
 -- the card that a table holds
 abbrev pub cardOf : List ℕ → Card
-cardOf ws = record { sets = recordsOf ws }
+cardOf ws = cardWith (recordsOf ws) (deskAt ws)
 
 -- ---- legality
 
@@ -95,9 +108,9 @@ sized ws = eqb (layout ws) layoutNumber && roomFor (count ws) (length ws)
 abbrev pub extentOf : ℕ → ℕ → ℕ
 extentOf n room = if roomFor n room then rowStart n else 0
 
--- "Legal table"
+-- "Legal table"; and 02: "Legal: at most four waiting, and no flag that could be served at once."
 unfoldable pub legalTable : List ℕ → Bool
-legalTable ws = sized ws && legalRows 0 (rows ws)
+legalTable ws = sized ws && deskLegal (deskPart ws) && legalRows 0 (rows ws)
 
 -- what a legal table has: this layout, some sets, not too many, and room for them
 pub record Legal (ws : List ℕ) : Type 0 where
@@ -105,7 +118,18 @@ pub record Legal (ws : List ℕ) : Type 0 where
   pub some : 1 ≤ count ws
   pub few : count ws ≤ maxSets
   pub room : rowStart (count ws) ≤ length ws
+  pub desk : deskLegal (deskPart ws) ≡ true
   pub legal : legalTable ws ≡ true
+
+-- words that have room for a desk, and hold a legal one
+pub record DeskThere (ws : List ℕ) : Type 0 where
+  pub room : headerWords ≤ length ws
+  pub legal : deskLegal (deskPart ws) ≡ true
+
+-- the desk after an item, in its place, and the notice that goes out
+pub record Tells (ws : List ℕ) (t : Told) (after : List ℕ) (notice : Notice) : Type 0 where
+  pub desk : after ≡ withDesk ws (t .desk)
+  pub sent : notice ≡ t .notice
 
 -- ---- looking up, writing back, the marks
 
@@ -133,7 +157,7 @@ writtenFrom ws slot (r ∷ rs) = writtenFrom (put ws slot (wordsOf r)) (suc slot
 unfoldable pub writtenRows : List ℕ → List Record → List ℕ
 writtenRows ws rs = writtenFrom ws 0 rs
 
--- the table with this card: its header, and its sets in their slots
+-- the table with this card: its header, desk included, and its sets in their slots
 unfoldable pub written : List ℕ → Card → List ℕ
 written ws c = writtenRows (sets ws 0 (header c)) (c .sets)
 
@@ -148,3 +172,9 @@ listedMarks rs = map (λ r. r .notes .listed) rs
 
 abbrev pub listedWord : List Record → ℕ
 listedWord rs = wordOf (listedMarks rs)
+
+-- 02: "When an item lists one or more sets that weren't listed": the records before it, and after it
+abbrev pub newly : List Record → List Record → Bool
+newly [] xs = false
+newly (r ∷ rs) [] = false
+newly (r ∷ rs) (x ∷ xs) = newlyListed r x || newly rs xs

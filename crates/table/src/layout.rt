@@ -2,6 +2,7 @@
 ghost use mathlib.Core.Path.{_≡_};
 ghost use Rattle.record.specs.Parts.{idOf};
 ghost use Rattle.table.specs.Layout.{fieldWords, wordsOf, windowIn, attributesAt, stateAt, notesAt, recordOf};
+use octets::casts::bit_of;
 use octets::casts::from_size;
 use octets::casts::from_u32;
 use record::Attributes;
@@ -12,7 +13,6 @@ use record::Record;
 use record::SetId;
 use record::State;
 use record::Window;
-use record::event::bit_of;
 use record::event::bits_of;
 use record::event::events_in;
 use record::parts::config_of;
@@ -21,10 +21,13 @@ use record::parts::spent;
 use record::parts::state_of;
 use record::windows::window_no;
 
-// The header: the number of this layout, which every change of it raises, then the number of sets.
-pub const HEADER: usize = 2;
+// The header: the number of this layout, which every change of it raises, the number of sets, and the desk.
+pub const HEADER: usize = 10;
 
-pub const LAYOUT: u64 = 65537;
+pub const LAYOUT: u64 = 65538;
+
+// Where in it the desk begins.
+pub const DESK_START: usize = 2;
 
 pub const ROW: usize = 24;
 

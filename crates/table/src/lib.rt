@@ -4,14 +4,17 @@ pub mod layout;
 pub mod legal_words;
 
 ghost use mathlib.Core.Path.{_≡_};
+ghost use mathlib.Core.Bool.{false};
 ghost use mathlib.Core.List.{map};
 ghost use Prim.Native.Nat.{_+_, _*_, _<_, _≤_};
 ghost use lib.ListN.{length, replicate};
 ghost use lib.Seq.{sets};
 ghost use Rattle.table.specs.Layout.{wordsOf, recordOf};
 ghost use Rattle.record.specs.Parts.{idOf};
-ghost use Rattle.table.specs.Card.{headerWords};
-ghost use Rattle.table.specs.Table.{count, rowStart, row, rows, put, extentOf, sized, legalRows, legalTable, Legal, recordsOf, findIn, enterIn, listedWord, maxSets};
+ghost use Rattle.desk.specs.Desk.{queued, turned, lifted, settle, requestsMaximum};
+ghost use Rattle.table.specs.Card.{headerWords, deskStart};
+ghost use Rattle.table.specs.Table.{deskPart, deskAt, withDesk, DeskThere, Tells, count, rowStart, row, rows, put, extentOf, sized, legalRows, legalTable, Legal, recordsOf, findIn, enterIn, listedWord, maxSets};
+use crate::layout::DESK_START;
 use crate::layout::HEADER;
 use crate::layout::LAYOUT;
 use crate::layout::LISTED;
@@ -20,10 +23,12 @@ use crate::layout::id_in;
 use crate::layout::record_of;
 use crate::layout::words_of;
 use crate::legal_words::follows;
+use desk::DESK;
 use octets::casts::to_size;
 use record::Record;
 use record::SetId;
 use record::Slot;
+use replies::Notice;
 
 pub const MAX_SETS: usize = 31;
 
@@ -88,6 +93,73 @@ pub fn extent(n: usize, room: usize) -> usize
     if (1 <= n) & (end <= room) { end } else { 0 }
 }
 
+// The desk's words.
+pub fn desk_of(table: &[u64]) -> [u64; DESK]
+    requires { ⌜ headerWords ≤ length (now table) ⌝ }
+    ensures { λ r. ⌜ r ≡ deskPart (now (table .entry)) ⌝ }
+{
+    let mut a = [0u64; DESK];
+    octets::copy_words(&mut a, 0, &table[DESK_START..HEADER]);
+    a
+}
+
+fn put_desk(table: &mut [u64], a: [u64; DESK])
+    requires { ⌜ headerWords ≤ length (now table) ⌝ }
+    ensures { λ _. ⌜ now (table .exit) ≡ sets (now (table .entry)) deskStart a ⌝ }
+{
+    octets::copy_words(table, DESK_START, &a);
+}
+
+// ---- the end of an item: what it does to the desk, and the notice that goes beside its answer
+
+// `new`: it has listed a set that was not listed. Where it has not, a legal desk stays as it is.
+pub fn settle(table: &mut [u64], new: bool) -> Notice
+    requires { ⌜ DeskThere (now table) ⌝ }
+    ensures { λ r. ⌜ Tells (now (table .entry)) (settle new (deskAt (now (table .entry)))) (now (table .exit)) r ⌝ }
+{
+    if new {
+        let s = desk::settle(desk_of(table), true);
+        let words = s.words;
+        let notice = s.notice;
+        put_desk(table, words);
+        return notice;
+    }
+    Notice::Unsent
+}
+
+// A request that arrives.
+pub fn queue(table: &mut [u64], id: u16) -> Notice
+    requires { ⌜ DeskThere (now table) × (length (deskAt (now table) .waiting) < requestsMaximum) ⌝ }
+    ensures { λ r. ⌜ Tells (now (table .entry)) (settle false (queued id (deskAt (now (table .entry))))) (now (table .exit)) r ⌝ }
+{
+    let s = desk::queue_and_settle(desk_of(table), id);
+    let words = s.words;
+    let notice = s.notice;
+    put_desk(table, words);
+    notice
+}
+
+// Feature 0Bh.
+pub fn turn(table: &mut [u64], on: bool) -> Notice
+    requires { ⌜ DeskThere (now table) ⌝ }
+    ensures { λ r. ⌜ Tells (now (table .entry)) (settle false (turned on (deskAt (now (table .entry))))) (now (table .exit)) r ⌝ }
+{
+    let s = desk::turn_and_settle(desk_of(table), on);
+    let words = s.words;
+    let notice = s.notice;
+    put_desk(table, words);
+    notice
+}
+
+// A read of page 0Bh with Retain 0.
+pub fn lift(table: &mut [u64])
+    requires { ⌜ DeskThere (now table) ⌝ }
+    ensures { λ _. ⌜ now (table .exit) ≡ withDesk (now (table .entry)) (lifted (deskAt (now (table .entry)))) ⌝ }
+{
+    let words = desk::lift(desk_of(table));
+    put_desk(table, words);
+}
+
 fn fits(table: &[u64]) -> bool
     ensures { λ r. ⌜ r ≡ sized (now (table .entry)) ⌝ }
 {
@@ -120,10 +192,11 @@ pub fn legal(table: &[u64]) -> bool
     ensures { λ r. ⌜ r ≡ legalTable (now (table .entry)) ⌝ }
 {
     if fits(table) {
-        rows_legal(table, to_size(table[1]))
-    } else {
-        false
+        if desk::legal(desk_of(table)) {
+            return rows_legal(table, to_size(table[1]));
+        }
     }
+    false
 }
 
 pub fn find(table: &[u64], id: SetId) -> Found

@@ -15,4 +15,4 @@ fetch-spec =
     (λ c.
     let p = c .before in
     let s = p .before .before .before in
-    p .words-in .ensures ∙ row-in (s .args .bytes .now) (s .args .slot) (8 * 2 + s .args .slot * (8 * 24)) (s .pre) (omega arith)))
+    p .words-in .ensures ∙ row-in (s .args .bytes .now) (s .args .slot) (8 * 10 + s .args .slot * (8 * 24)) (s .pre) (omega arith)))

@@ -28,4 +28,4 @@ store-moved-spec =
     let l = s .pre .0 in
     let m = s .pre .1 in
     (rw (w .words-of .ensures) at (p .words-out .ensures))
-    ∙ part-out b (wordsOf a) i windowWord rowWords (8 * 2 + i * (8 * 24) + 8 * 17) (λ (j : ℕ). w .before .slice-known .given j .fits) (length-words a) (l .room) (omega arith) (omega arith) (config-stays (row (tableIn b) i) a (l .legal) (m .attributes) (m .config)) (row-ends b (wordsOf a) i (length-words a) (l .room)) (omega arith)))
+    ∙ part-out b (wordsOf a) i windowWord rowWords (8 * 10 + i * (8 * 24) + 8 * 17) (λ (j : ℕ). w .before .slice-known .given j .fits) (length-words a) (l .room) (omega arith) (omega arith) (config-stays (row (tableIn b) i) a (l .legal) (m .attributes) (m .config)) (row-ends b (wordsOf a) i (length-words a) (l .room)) (omega arith)))

@@ -28,4 +28,4 @@ store-silent-spec =
     let l = s .pre .0 in
     let m = s .pre .1 .moved in
     (rw (w .words-of .ensures) at (p .words-out .ensures))
-    ∙ part-out b (wordsOf a) i windowWord notesWord (8 * 2 + i * (8 * 24) + 8 * 17) (λ (j : ℕ). w .before .slice-known .given j .fits) (length-words a) (l .room) (omega arith) (omega arith) (config-stays (row (tableIn b) i) a (l .legal) (m .attributes) (m .config)) (notes-stay (row (tableIn b) i) a (l .legal) (s .pre .1 .notes)) (omega arith)))
+    ∙ part-out b (wordsOf a) i windowWord notesWord (8 * 10 + i * (8 * 24) + 8 * 17) (λ (j : ℕ). w .before .slice-known .given j .fits) (length-words a) (l .room) (omega arith) (omega arith) (config-stays (row (tableIn b) i) a (l .legal) (m .attributes) (m .config)) (notes-stay (row (tableIn b) i) a (l .legal) (s .pre .1 .notes)) (omega arith)))

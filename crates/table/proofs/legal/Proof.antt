@@ -6,28 +6,29 @@ use Rattle.table.proofs.LegalTables.{sized-known}
 use Rattle.table.proofs.legal.Statement.{statement}
 use Rattle.table.proofs.legal.Tie as tie
 
-returns : tie.Need-returns
-unfolding legalTable
-returns c =
-    let t = c .before .before .before in
-    rw (← t .before .fits2 .ensures, t .if1 .taken) (c .rows-legal .ensures)
-
-returns-2 : tie.Need-returns-2
-unfolding legalTable
-returns-2 c = rw (← c .before .fits2 .ensures, c .if1 .left)
-
 pub legal-spec : {M : Type 1} → statement M
+unfolding legalTable
 legal-spec =
     tie.close
     (tie.spec
     (λ c κs. search needs)
+    (λ c κs. let f = c .before in omega (arith, sized-known (f .before .before .args .table .now) (sym (f .fits2 .ensures) ∙ c .if1 .taken)))
+    (λ c κs. search needs)
     (λ c.
-    let f = c .before .before in
-    omega (arith, sized-known (f .before .before .args .table .now) (sym (f .fits2 .ensures) ∙ c .before .if1 .taken)))
+    let t = c .before .before .before .before in
+    omega (arith, sized-known (t .before .before .before .args .table .now) (sym (t .before .fits2 .ensures) ∙ t .if1 .taken)))
     (λ c κs. search needs)
     (λ c κs.
-    let t = c .before .before in
+    let t = c .before .before .before .before .before in
     let w = c .to-size .ensures in
     (w, omega (arith, w, sized-known (t .before .before .before .args .table .now) (sym (t .before .fits2 .ensures) ∙ t .if1 .taken))))
-    returns
-    returns-2)
+    (λ c.
+    let d = c .before .before .before in
+    let o = d .before .before in
+    let t = o .before in
+    rw (← t .before .fits2 .ensures, t .if1 .taken, ← o .desk-of .ensures, ← d .before .legal .ensures, d .if2 .taken) (c .rows-legal .ensures))
+    (λ c.
+    let o = c .before .before in
+    let t = o .before in
+    rw (← t .before .fits2 .ensures, t .if1 .taken, ← o .desk-of .ensures, ← c .before .legal .ensures, c .if2 .left))
+    (λ c. rw (← c .before .fits2 .ensures, c .if1 .left)))

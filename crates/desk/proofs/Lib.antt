@@ -1,0 +1,4 @@
+pub mod Bits
+pub mod LegalDesks
+pub mod AtDesk
+pub mod Sending

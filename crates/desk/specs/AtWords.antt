@@ -1,0 +1,38 @@
+-- What is done to a desk, done to its words: for the functions that hold it so. proofs/AtDesk.antt says that it is the same.
+use mathlib.Core.Bool.{Bool, _&&_, _||_}
+use mathlib.Core.List.{List, [], _∷_}
+use Prim.Native.Nat.{ℕ, _+_, _-_, _%_, _^_}
+use lib.Dec.{ltb, eqb}
+use lib.ListN.{getD, set}
+use Rattle.octets.specs.Choice.{if_then_else_, bit}
+use Rattle.replies.specs.declared.Notice.the-variants.{Unsent, To}
+use Rattle.desk.specs.Words.{firstWaiting}
+use Rattle.desk.specs.declared.Settled.{Settled}
+
+abbrev pub queuedWords : ℕ → List ℕ → List ℕ
+queuedWords id a = set (set a (firstWaiting + getD a 3 0) id) 3 (getD a 3 0 + 1)
+
+abbrev pub turnedWords : Bool → List ℕ → List ℕ
+turnedWords on a = set a 0 (bit on)
+
+abbrev pub liftedWords : List ℕ → List ℕ
+liftedWords a = set (set a 1 0) 2 0
+
+-- something is to be told, and can be
+abbrev pub raises : Bool → List ℕ → Bool
+raises new a = (eqb (getD a 2 0) 1 || new) && eqb (getD a 0 0) 1 && eqb (getD a 1 0) 0 && ltb 0 (getD a 3 0)
+
+-- the oldest request is completed
+abbrev pub served : List ℕ → Settled
+served a =
+    record {
+      words = getD a 0 0 ∷ 1 ∷ 0 ∷ (getD a 3 0 - 1) ∷ getD a 5 0 ∷ getD a 6 0 ∷ getD a 7 0 ∷ 0 ∷ [];
+      notice = To (getD a firstWaiting 0 % 2 ^ 16);
+    }
+
+-- the flag remembers
+abbrev pub held : Bool → List ℕ → Settled
+held new a = record { words = set a 2 (bit (eqb (getD a 2 0) 1 || new)); notice = Unsent }
+
+abbrev pub settledWords : Bool → List ℕ → Settled
+settledWords new a = if raises new a then served a else held new a

@@ -1,0 +1,68 @@
+-- The desk's words, which stand in the header of a table, in the order of docs/LAYOUT.md; and which words are those of a legal desk.
+use mathlib.Core.Path.{_≡_}
+use mathlib.Core.Bool.{Bool, true, not, _&&_, _||_}
+use mathlib.Core.List.{List, [], _∷_, map}
+use Prim.Native.Nat.{ℕ, _%_, _^_}
+use lib.Dec.{leb, ltb, eqb}
+use lib.ListN.{length, getD, take, drop}
+use Rattle.octets.specs.Choice.{bit}
+use Rattle.octets.specs.Octets.{padded}
+use Rattle.desk.specs.Desk.{Desk, deskOf, requestsMaximum, identifierMaximum, legalDesk}
+
+-- how many words a desk takes
+abbrev pub deskSize : ℕ
+deskSize = 8
+
+-- where in them the identifiers begin
+abbrev pub firstWaiting : ℕ
+firstWaiting = 4
+
+-- notices on, masked, the flag, how many requests wait, and their identifiers, zero where none waits
+abbrev pub deskWords : Desk → List ℕ
+deskWords d = bit (d .on) ∷ bit (d .masked) ∷ bit (d .flag) ∷ length (d .waiting) ∷ padded (d .waiting) 0 requestsMaximum
+
+-- the desk of such words: of an identifier's word as much as it holds
+abbrev pub deskIn : List ℕ → Desk
+deskIn a =
+    deskOf (eqb (getD a 0 0) 1) (eqb (getD a 1 0) 1) (eqb (getD a 2 0) 1)
+    (map (λ x. x % 2 ^ 16) (take (getD a 3 0) (drop firstWaiting a)))
+
+-- ---- the words of a legal desk, word by word
+
+-- the word of a place for an identifier, where a request waits there, or none does
+abbrev pub placeLegal : Bool → ℕ → Bool
+placeLegal used x = leb x identifierMaximum && (used || eqb x 0)
+
+-- "no flag that could be served at once"
+abbrev pub servedLate : List ℕ → Bool
+servedLate a = eqb (getD a 2 0) 1 && eqb (getD a 0 0) 1 && eqb (getD a 1 0) 0 && ltb 0 (getD a 3 0)
+
+-- "Legal: at most four waiting, and no flag that could be served at once.": words 0, 1 and 2 are 0 or 1, word 3 is at most four, and the
+-- identifiers stand "oldest" first, without gaps
+abbrev pub deskLegal : List ℕ → Bool
+deskLegal a =
+    leb (getD a 0 0) 1
+    && leb (getD a 1 0) 1
+    && leb (getD a 2 0) 1
+    && leb (getD a 3 0) requestsMaximum
+    && placeLegal (ltb 0 (getD a 3 0)) (getD a 4 0)
+    && placeLegal (ltb 1 (getD a 3 0)) (getD a 5 0)
+    && placeLegal (ltb 2 (getD a 3 0)) (getD a 6 0)
+    && placeLegal (ltb 3 (getD a 3 0)) (getD a 7 0)
+    && not (servedLate a)
+
+-- Such words are those of a legal desk, and those of a legal desk are such words. Proved as `legal-words` and `legal-desks` in
+-- proofs/LegalDesks.antt.
+pub record WordsOfDesk (a : List ℕ) : Type 0 where
+  pub words : a ≡ deskWords (deskIn a)
+  pub legal : legalDesk (deskIn a) ≡ true
+
+abbrev pub LegalWords : Type 0
+LegalWords = (a : List ℕ) → length a ≡ deskSize → deskLegal a ≡ true → WordsOfDesk a
+
+pub record DeskOfWords (d : Desk) : Type 0 where
+  pub back : deskIn (deskWords d) ≡ d
+  pub legal : deskLegal (deskWords d) ≡ true
+
+abbrev pub LegalDesks : Type 0
+LegalDesks = (d : Desk) → legalDesk d ≡ true → DeskOfWords d
