@@ -15,7 +15,7 @@ ghost use Rattle.commands.specs.declared.Kind.{Kind};
 ghost use Rattle.commands.specs.Commands.{enable, windowCause, retain, offset};
 ghost use Rattle.commands.specs.Shapes.{shapeOf, isNamed, needsIn, needsOut};
 ghost use Rattle.commands.specs.StatusTable.{earlyLines};
-ghost use Rattle.steps.specs.Commanded.{modeNo, answerOf};
+ghost use Rattle.steps.specs.Commanded.{noticesNo, modeNo, answerOf};
 ghost use Rattle.by_value.specs.OnSet.{statusOn, afterOn};
 use commands::Command;
 use commands::Kind;
@@ -43,6 +43,9 @@ use rules::clearing_read;
 use rules::go_to_selected;
 use rules::keep_still;
 use rules::set_mode;
+
+// Bit 12 of feature 0Bh.
+const NOTICES_BIT: u32 = 0x1000;
 
 pub fn status_on(early: u16, k: Kind, c: Command, given: usize, room: usize, r: Record) -> u16
     requires { ⌜ early ≡ firstOf (earlyLines c) ⌝ }
@@ -102,12 +105,15 @@ pub fn after_command(r: Record, k: Kind, c: Command, given: &[u8]) -> Record
     ensures { λ x. ⌜ x ≡ afterOn k c (now (given .entry)) r ⌝ }
 {
     match k {
+        Kind::SetNotices => after_still(r),
         Kind::SetConfig => after_config(r, c, given),
         Kind::SetWindow => after_window(r, c),
+        Kind::GetNotices => after_still(r),
         Kind::GetConfig => after_still(r),
         Kind::GetWindow => after_still(r),
         Kind::ReadLatency => after_read(r, c),
         Kind::ReadAggregate => after_still(r),
+        Kind::EventRequest => after_still(r),
         Kind::Identify => after_still(r),
     }
 }
@@ -171,12 +177,22 @@ pub fn hand_by(k: Kind, c: Command, r: Record, answer: &mut [u8]) -> Reply
     ensures { λ x. ⌜ Replied (answerOf k c r) (now (answer .entry)) x (now (answer .exit)) ⌝ }
 {
     match k {
+        Kind::SetNotices => done(),
         Kind::SetConfig => done(),
         Kind::SetWindow => done(),
+        Kind::GetNotices => done(),
         Kind::GetConfig => hand_config(r, answer),
         Kind::GetWindow => hand_window(r),
         Kind::ReadLatency => hand_latency(r, c, answer),
         Kind::ReadAggregate => done(),
+        Kind::EventRequest => done(),
         Kind::Identify => done(),
     }
+}
+
+// Dword 0 of Get Features 0Bh.
+pub fn notices_no(on: bool) -> u32
+    ensures { λ r. ⌜ r ≡ noticesNo on ⌝ }
+{
+    if on { NOTICES_BIT } else { 0 }
 }

@@ -3,7 +3,7 @@ ghost use mathlib.Core.Path.{_≡_};
 ghost use mathlib.Core.List.{[], map};
 ghost use lib.ListN.{length};
 ghost use Rattle.rules.specs.Rules.{tick};
-ghost use Rattle.table.specs.Table.{count, Legal, recordsOf, writtenRows};
+ghost use Rattle.table.specs.Table.{count, Legal, recordsOf, writtenRows, newly};
 ghost use Rattle.steps.specs.Items.{Item, itemOf};
 ghost use Rattle.by_value.specs.Ticks.{tickOne};
 ghost use Rattle.steps.specs.Words.{Answered};
@@ -12,8 +12,10 @@ use by_value::media::after_event;
 use by_value::media::after_tick;
 use record::SetId;
 use record::Slot;
+use record::event::newly_listed;
 use record::legal::DAY_MS;
 use replies::Reply;
+use replies::beside;
 use replies::done;
 use replies::numbers::BAD_TABLE;
 use replies::numbers::TICK_TOO_LONG;
@@ -24,6 +26,7 @@ use table::Entry;
 use table::enter;
 use table::legal;
 use table::load;
+use table::settle;
 use table::store;
 
 pub fn event(table: &mut [u64], id: SetId, m: Media) -> Reply
@@ -35,8 +38,9 @@ pub fn event(table: &mut [u64], id: SetId, m: Media) -> Reply
         Entry::Unknown => refuse(entry_no(UNKNOWN_SET, e)),
         Entry::Here(slot) => {
             let r = load(table, slot);
-            store(table, slot, after_event(r, m));
-            done()
+            let x = after_event(r, m);
+            store(table, slot, x);
+            beside(done(), settle(table, newly_listed(r, x)))
         }
     }
 }
@@ -59,16 +63,21 @@ pub fn excursion(table: &mut [u64], id: SetId) -> Reply
     event(table, id, Media::Excursion)
 }
 
-fn tick_all(table: &mut [u64], n: usize, t: u32)
+// Every row after a tick; the answer is whether some set was listed by it.
+fn tick_all(table: &mut [u64], n: usize, t: u32) -> bool
     requires { ⌜ (n ≡ count (now table)) × Legal (now table) ⌝ }
-    ensures { λ _. ⌜ now (table .exit) ≡ writtenRows (now (table .entry)) (map (tickOne t) (recordsOf (now (table .entry)))) ⌝ }
+    ensures { λ b. ⌜ (now (table .exit) ≡ writtenRows (now (table .entry)) (map (tickOne t) (recordsOf (now (table .entry))))) × (b ≡ newly (recordsOf (now (table .entry))) (map (tickOne t) (recordsOf (now (table .entry))))) ⌝ }
 {
+    let mut new = false;
     let mut i = 0;
     while i < n {
         let r = load(table, Slot(i));
-        store(table, Slot(i), after_tick(r, t));
+        let x = after_tick(r, t);
+        store(table, Slot(i), x);
+        new = new | newly_listed(r, x);
         i += 1;
     }
+    new
 }
 
 // Nothing is written to the answer buffer.
@@ -80,8 +89,8 @@ pub fn ticks(table: &mut [u64], t: u32, answer: &mut [u8]) -> Reply
             return refuse(TICK_TOO_LONG);
         }
         let n = table::count_of(table);
-        tick_all(table, n, t);
-        done()
+        let new = tick_all(table, n, t);
+        beside(done(), settle(table, new))
     } else {
         refuse(BAD_TABLE)
     }

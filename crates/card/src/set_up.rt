@@ -36,7 +36,7 @@ pub fn set_up(table: &mut [u64], bytes: &[u8]) -> u16
     let status = refusal(bytes, table.len());
     if status == 0 {
         let n = bytes.len() / BODY;
-        let header = [LAYOUT, n as u64];
+        let header = [LAYOUT, n as u64, 0, 0, 0, 0, 0, 0, 0, 0];
         octets::copy_words(table, 0, &header);
         write_rows(table, bytes, n);
     }

@@ -8,6 +8,7 @@ use Prim.Native.Nat.{ℕ}
 use lib.ListN.{length}
 use lib.Seq.{sets}
 use Rattle.octets.specs.Octets.{AllBytes}
+use Rattle.replies.specs.declared.Notice.the-variants.{Unsent}
 use Rattle.steps.specs.Items.{Item}
 use Rattle.steps.specs.Rows.{carriedOut}
 use Rattle.card_c.specs.Entries.{SetUpAtC, AnsweredAtC, replyPart}
@@ -20,7 +21,7 @@ abbrev pub RefusedItem : Type 0
 RefusedItem =
     (region : List ℕ) (i : Item) (before reply₀ : List ℕ) (number : ℕ) (after buffer said : List ℕ)
     → AllBytes region → AnsweredAtC region i before reply₀ number after buffer said → carriedOut number ≡ false
-    → (after ≡ region) × (buffer ≡ before) × (said ≡ sets reply₀ 0 (replyPart 0 0 (length reply₀)))
+    → (after ≡ region) × (buffer ≡ before) × (said ≡ sets reply₀ 0 (replyPart 0 0 Unsent (length reply₀)))
 
 -- ---- 01: "Any two outcomes allowed by one statement are shown to coincide"
 

@@ -8,7 +8,8 @@ use lib.Seq.{sets}
 use Rattle.octets.specs.Octets.{padded}
 use Rattle.octets.specs.Pages.{field, place}
 use Rattle.region.specs.Region.{tableIn, tableOut}
-use Rattle.replies.specs.Answers.{cut}
+use Rattle.replies.specs.declared.Notice.{Notice}
+use Rattle.replies.specs.Answers.{toldNo, toNo, noticeNo, cut}
 use Rattle.steps.specs.Items.{Item}
 use Rattle.steps.specs.Words.{stepWords}
 use Rattle.steps.specs.SetUp.{setUp}
@@ -20,16 +21,18 @@ pub record SetUpAtC (bodies region after : List ℕ) (number : ℕ) : Type 0 whe
 
 -- ---- what an item's call says beside its status, in a region of its own
 
--- docs/DECISIONS.md, "A reply to C": dword 0 at bytes 3:0, the length of data at 7:4, the rest zero
+-- docs/DECISIONS.md, "A reply to C": dword 0 at bytes 3:0, the length of data at 7:4; 02's notice, "given beside the item's own answer with
+-- the request's identifier": 1 at byte 8 where there is one, the identifier at 11:10 and its dword 0 at 15:12, else zeros
 abbrev pub replySize : ℕ
 replySize = 16
 
-unfoldable pub replyPage : ℕ → ℕ → List ℕ
-replyPage dword len = place replySize (field 0 4 dword ∷ field 4 4 len ∷ [])
+unfoldable pub replyPage : ℕ → ℕ → Notice → List ℕ
+replyPage dword len notice =
+    place replySize (field 0 4 dword ∷ field 4 4 len ∷ field 8 2 (toldNo notice) ∷ field 10 2 (toNo notice) ∷ field 12 4 (noticeNo notice) ∷ [])
 
 -- as many of them as the region has room for
-abbrev pub replyPart : ℕ → ℕ → ℕ → List ℕ
-replyPart dword len room = padded (replyPage dword len) 0 (min room replySize)
+abbrev pub replyPart : ℕ → ℕ → Notice → ℕ → List ℕ
+replyPart dword len notice room = padded (replyPage dword len notice) 0 (min room replySize)
 
 -- Every item: the number returned, the region, and every byte of the answer buffer and of the reply. A media event has no answer
 -- buffer: [] before and after.
@@ -40,4 +43,6 @@ pub record AnsweredAtC (region : List ℕ) (i : Item) (before reply₀ : List �
   -- the data lies within the buffer, and these bytes are the data
   pub within : length (stepWords (tableIn region) i .answer .bytes) ≤ length buffer
   pub part : cut buffer 0 (length (stepWords (tableIn region) i .answer .bytes)) ≡ stepWords (tableIn region) i .answer .bytes
-  pub reply : said ≡ sets reply₀ 0 (replyPart (stepWords (tableIn region) i .answer .dword) (length (stepWords (tableIn region) i .answer .bytes)) (length reply₀))
+  pub reply :
+      said
+      ≡ sets reply₀ 0 (replyPart (stepWords (tableIn region) i .answer .dword) (length (stepWords (tableIn region) i .answer .bytes)) (stepWords (tableIn region) i .notice) (length reply₀))

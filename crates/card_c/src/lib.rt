@@ -33,7 +33,8 @@ pub extern "C" fn card_command(
     ensures { λ r. ⌜ AnsweredAtC (now (table .entry)) (Item.command (now (command .entry)) (now (given .entry)) (length (now (answer .entry)))) (now (answer .entry)) (now (reply .entry)) r (now (table .exit)) (now (answer .exit)) (now (reply .exit)) ⌝ }
 {
     let r = crate::commanded::command(table, command, given, answer);
-    put_reply(reply, r.dword, r.len);
+    let notice = r.notice;
+    put_reply(reply, r.dword, r.len, notice);
     r.status
 }
 
@@ -42,7 +43,8 @@ pub extern "C" fn card_reads(table: &mut [u8], set: u16, count: u16, reply: &mut
     ensures { λ r. ⌜ AnsweredAtC (now (table .entry)) (Item.reads set count) [] (now (reply .entry)) r (now (table .exit)) [] (now (reply .exit)) ⌝ }
 {
     let r = event(table, set, Media::Reads(count));
-    put_reply(reply, r.dword, r.len);
+    let notice = r.notice;
+    put_reply(reply, r.dword, r.len, notice);
     r.status
 }
 
@@ -51,7 +53,8 @@ pub extern "C" fn card_writes(table: &mut [u8], set: u16, count: u16, reply: &mu
     ensures { λ r. ⌜ AnsweredAtC (now (table .entry)) (Item.writes set count) [] (now (reply .entry)) r (now (table .exit)) [] (now (reply .exit)) ⌝ }
 {
     let r = event(table, set, Media::Writes(count));
-    put_reply(reply, r.dword, r.len);
+    let notice = r.notice;
+    put_reply(reply, r.dword, r.len, notice);
     r.status
 }
 
@@ -60,7 +63,8 @@ pub extern "C" fn card_excursion(table: &mut [u8], set: u16, reply: &mut [u8]) -
     ensures { λ r. ⌜ AnsweredAtC (now (table .entry)) (Item.excursion set) [] (now (reply .entry)) r (now (table .exit)) [] (now (reply .exit)) ⌝ }
 {
     let r = event(table, set, Media::Excursion);
-    put_reply(reply, r.dword, r.len);
+    let notice = r.notice;
+    put_reply(reply, r.dword, r.len, notice);
     r.status
 }
 
@@ -74,6 +78,7 @@ pub extern "C" fn card_tick(
     ensures { λ r. ⌜ AnsweredAtC (now (table .entry)) (Item.tick milliseconds (length (now (answer .entry)))) (now (answer .entry)) (now (reply .entry)) r (now (table .exit)) (now (answer .exit)) (now (reply .exit)) ⌝ }
 {
     let r = ticks(table, milliseconds, answer);
-    put_reply(reply, r.dword, r.len);
+    let notice = r.notice;
+    put_reply(reply, r.dword, r.len, notice);
     r.status
 }

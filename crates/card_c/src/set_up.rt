@@ -40,7 +40,7 @@ pub(crate) fn set_up(region: &mut [u8], bodies: &[u8]) -> u16
     let status = refusal(bodies, region.len() / 8);
     if status == 0 {
         let n = bodies.len() / BODY;
-        let header = [LAYOUT, n as u64];
+        let header = [LAYOUT, n as u64, 0, 0, 0, 0, 0, 0, 0, 0];
         words_out(&header, region, 0);
         write_rows(region, bodies, n);
     }

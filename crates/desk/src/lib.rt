@@ -3,7 +3,7 @@
 ghost use mathlib.Core.Path.{_≡_};
 ghost use mathlib.Core.Bool.{false};
 ghost use Prim.Native.Nat.{_<_};
-ghost use lib.Dec.{leb, eqb};
+ghost use lib.Dec.{eqb};
 ghost use lib.ListN.{getD};
 ghost use Rattle.desk.specs.Desk.{requestsMaximum};
 ghost use Rattle.desk.specs.Words.{placeLegal, servedLate, deskLegal};
@@ -84,11 +84,11 @@ pub fn lift(a: [u64; DESK]) -> [u64; DESK]
     b
 }
 
-// Whether as many requests wait as may.
-pub fn full(a: [u64; DESK]) -> bool
-    ensures { λ r. ⌜ r ≡ leb requestsMaximum (getD a 3 0) ⌝ }
+// How many requests wait.
+pub fn waiting(a: [u64; DESK]) -> u64
+    ensures { λ r. ⌜ r ≡ getD a 3 0 ⌝ }
 {
-    REQUESTS <= a[3]
+    a[3]
 }
 
 pub fn is_on(a: [u64; DESK]) -> bool

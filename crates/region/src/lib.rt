@@ -125,6 +125,21 @@ fn put_desk(bytes: &mut [u8], a: [u64; DESK])
     words_out(&a, bytes, WORD * DESK_START);
 }
 
+// How many requests wait, and whether notices are on.
+pub fn waiting_at(bytes: &[u8]) -> u64
+    requires { ⌜ DeskThere (tableIn (now bytes)) ⌝ }
+    ensures { λ r. ⌜ r ≡ length (deskAt (tableIn (now (bytes .entry))) .waiting) ⌝ }
+{
+    desk::waiting(desk_of(bytes))
+}
+
+pub fn on_at(bytes: &[u8]) -> bool
+    requires { ⌜ DeskThere (tableIn (now bytes)) ⌝ }
+    ensures { λ r. ⌜ r ≡ deskAt (tableIn (now (bytes .entry))) .on ⌝ }
+{
+    desk::is_on(desk_of(bytes))
+}
+
 // ---- the end of an item: what it does to the desk, and the notice that goes beside its answer
 
 // `new`: it has listed a set that was not listed. Where it has not, a legal desk stays as it is.

@@ -78,6 +78,9 @@ abbrev pub toNo : Notice → ℕ
 toNo Unsent = 0
 toNo (To id) = id
 
+abbrev pub noticeOf : ℕ → ℕ → Notice
+noticeOf told to = if eqb told 0 then Unsent else To to
+
 abbrev pub noticeNo : Notice → ℕ
 noticeNo Unsent = 0
 noticeNo (To id) = noticeDword

@@ -6,7 +6,7 @@ ghost use Prim.Native.Nat.{_≤_};
 ghost use lib.ListN.{length};
 ghost use Rattle.octets.specs.Octets.{padded};
 ghost use Rattle.replies.specs.Status.{firstOf, linesOf};
-ghost use Rattle.replies.specs.Answers.{answered, refusing, giving, done, awaiting, besideOf, toldNo, toNo, noticeNo, Replied};
+ghost use Rattle.replies.specs.Answers.{answered, refusing, giving, done, awaiting, besideOf, toldNo, toNo, noticeOf, noticeNo, Replied};
 use crate::numbers::REQUEST_WAITS;
 use crate::numbers::SUCCESS;
 
@@ -111,6 +111,17 @@ pub fn to_no(notice: Notice) -> u16
     match notice {
         Notice::Unsent => 0,
         Notice::To(id) => id,
+    }
+}
+
+// And back.
+pub fn notice_of(told: u16, to: u16) -> Notice
+    ensures { λ r. ⌜ r ≡ noticeOf told to ⌝ }
+{
+    if told == 0 {
+        Notice::Unsent
+    } else {
+        Notice::To(to)
     }
 }
 

@@ -12,7 +12,10 @@ use Rattle.record.specs.Parts.{idOf}
 use Rattle.octets.specs.Lists.{first}
 use Rattle.steps.specs.Items.{Card, Item, All, Meaning, Nobody, Everybody, The}
 use Rattle.steps.specs.Meanings.{meaning}
-use Rattle.steps.specs.Card.{refusalAll, has, names, namesBy, concerns, concernsBy, touched, ruled, answer, answerBy}
+use Rattle.steps.specs.Card.{refusalAll, has, names, namesBy, concerns, concernsBy, touched, ruled, answer, answerBy, refusalBy, refusalOf, setsAfter, deskBy, deskOn, atDesk}
+use Rattle.desk.specs.Desk.{Desk}
+use Rattle.desk.proofs.Sending.{toldIf}
+use Rattle.table.specs.Table.{newly}
 use Rattle.replies.proofs.Rows.{last-row}
 
 pub bool-cases : (b : Bool) → (b ≡ true) ⊎ (b ≡ false)
@@ -42,6 +45,28 @@ answer-by (The b o) a c d e h = rw (eqb-true b a e, h)
 pub answers : (i : Item) (a : ℕ) (c d : Card) → names a i ≡ true → first (has a) (c .sets) ≡ first (has a) (d .sets) → answer c i ≡ answer d i
 unfolding names answer
 answers i a c d e h = answer-by (meaning i) a c d e h
+
+-- and so does its refusal
+refusal-by :
+    (m : Meaning) (a : ℕ) (c d : Card) → namesBy m a ≡ true → first (has a) (c .sets) ≡ first (has a) (d .sets) → refusalBy m c ≡ refusalBy m d
+refusal-by (Nobody v) a c d e h = cc
+refusal-by (Everybody v) a c d e h = cc
+refusal-by (The b o) a c d e h = rw (eqb-true b a e, h)
+
+pub refusals : (i : Item) (a : ℕ) (c d : Card) → names a i ≡ true → first (has a) (c .sets) ≡ first (has a) (d .sets) → refusalOf c i ≡ refusalOf d i
+unfolding names refusalOf
+refusals i a c d e h = refusal-by (meaning i) a c d e h
+
+-- it does nothing to the desk by itself
+desk-by : (m : Meaning) (a : ℕ) (d : Desk) → namesBy m a ≡ true → deskBy m d ≡ d
+desk-by (Nobody v) a d e = cc
+desk-by (Everybody v) a d e = refl
+desk-by (The b o) a d e = refl
+
+pub told-named :
+    (i : Item) (a : ℕ) (c : Card) → names a i ≡ true → atDesk c i ≡ toldIf (eqb (refusalOf c i) 0) (newly (c .sets) (setsAfter c i)) (c .desk)
+unfolding names deskOn atDesk
+told-named i a c e = rw (desk-by (meaning i) a (c .desk) e)
 
 -- an item that concerns a set of n concerns it on a card of one, where less room is asked for
 less : (each room n : ℕ) → 1 ≤ n → ltb room (each * n) ≡ false → ltb room (each * 1) ≡ false

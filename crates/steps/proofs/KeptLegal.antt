@@ -15,14 +15,15 @@ use Rattle.record.specs.Legal.{legalAttributes, legalState, legalRecord, KeepsS
 use Rattle.rules.specs.Rules as rules
 use Rattle.rules.proofs.Keeps.{keeps-record, read-event-keeps, write-event-keeps, excursion-keeps, tick-keeps, configure-keeps, selecting-keeps}
 use Rattle.table.specs.Table.{recordsOf, legalSets, legalTable}
-use Rattle.table.proofs.LegalTables.{legal-known, length-records, sets-known}
+use Rattle.table.proofs.LegalTables.{legal-known, desk-there, length-records, sets-known}
+use Rattle.table.proofs.Desks.{desk-legal}
 use Rattle.table.proofs.Written.{Fitting, fitting, written-back, written-legal}
 use Rattle.steps.specs.Items.{Item, reads, writes, excursion, tick, command, Meaning, Nobody, Everybody, The}
 use Rattle.octets.specs.Choice.{if_then_else_}
 use Rattle.pages.specs.Features.{configIn}
 use Rattle.commands.specs.declared.Command.{Command}
 use Rattle.commands.specs.declared.Kind.{Kind}
-use Rattle.commands.specs.declared.Kind.the-variants.{SetConfig, SetWindow, GetConfig, GetWindow, ReadLatency, ReadAggregate, Identify}
+use Rattle.commands.specs.declared.Kind.the-variants.{SetNotices, SetConfig, SetWindow, GetNotices, GetConfig, GetWindow, ReadLatency, ReadAggregate, EventRequest, Identify}
 use Rattle.commands.specs.Commands.{enable, windowCause, retain, commandIn}
 use Rattle.commands.specs.Shapes.{kindOf}
 use Rattle.steps.specs.Commanded.{meaningBy, commandMeaning}
@@ -31,6 +32,7 @@ use Rattle.steps.specs.Card.{refusalAt, effectBy, effectOn, concerns, to
 use Rattle.steps.specs.Words.{cardOf, stepWords}
 use Rattle.steps.proofs.ItemShapes.{bool-cases, touched-own, touched-not, keeps}
 use Rattle.steps.proofs.Slots.{ordered}
+use Rattle.steps.proofs.AtDesk.{desk-kept}
 use Rattle.steps.proofs.StepOnWords.{step-legal}
 
 -- what is to be shown of each item: its rule keeps a state legal, where it is carried out
@@ -45,12 +47,15 @@ by-retain true a s l = l
 by-retain false a s l = l
 
 by-kind : (k : Kind) (c : Command) (given : List ℕ) (room : ℕ) → Sound (meaningBy k c given room)
+by-kind SetNotices c given room = tt
 by-kind SetConfig c given room = λ a s z. configure-keeps (enable c) (configIn given) a s
 by-kind SetWindow c given room = λ a s z. selecting-keeps (windowCause c) a s
+by-kind GetNotices c given room = tt
 by-kind GetConfig c given room = λ a s z h l. l
 by-kind GetWindow c given room = λ a s z h l. l
 by-kind ReadLatency c given room = λ a s z h l. by-retain (retain c) a s l
 by-kind ReadAggregate c given room = tt
+by-kind EventRequest c given room = tt
 by-kind Identify c given room = tt
 
 command-sound : (bytes given : List ℕ) (room : ℕ) → Sound (commandMeaning bytes given room)
@@ -95,7 +100,7 @@ module _ (ws : List ℕ) (i : Item) (e : legalTable ws ≡ true) where
   after-legal = sets-kept (length (recordsOf ws)) 0 i (recordsOf ws) (sets-known ws (legal-known ws e))
 
   pub fits-again : Fitting ws (after (cardOf ws) i)
-  fits-again = fitting ws (legal-known ws e) (after (cardOf ws) i) (as-many ∙ length-records ws) after-legal
+  fits-again = fitting ws (legal-known ws e) (after (cardOf ws) i) (as-many ∙ length-records ws) after-legal (desk-kept (cardOf ws) i (desk-legal ws (desk-there ws (legal-known ws e))))
 
   pub step-keeps : legalTable (stepWords ws i .table) ≡ true
   step-keeps = rw (step-legal ws i e) (written-legal ws (after (cardOf ws) i) fits-again)

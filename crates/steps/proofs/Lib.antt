@@ -1,5 +1,6 @@
 pub mod ItemShapes
 pub mod Slots
+pub mod AtDesk
 pub mod EdgesHold
 pub mod StepOnWords
 pub mod KeptLegal
@@ -15,5 +16,6 @@ pub mod NamedItems
 pub mod PastWords
 pub mod Order
 pub mod WordsStay
+pub mod Notices
 pub mod HeldHistories
 pub mod HeldWords

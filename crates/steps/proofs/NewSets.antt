@@ -19,12 +19,15 @@ use Rattle.record.specs.Legal.{inRange, legalAttributes, legalRecord}
 use Rattle.replies.specs.Numbers.{badSetUp}
 use Rattle.replies.proofs.Rows.{passed}
 use Rattle.table.specs.Layout.{wordsOf}
-use Rattle.table.specs.Card.{Card, layoutNumber, header}
-use Rattle.table.specs.Table.{rowStart, put, recordsOf, legalSets, legalTable, writtenFrom, writtenRows, written, maxSets}
+use Rattle.table.specs.Card.{layoutNumber, header}
+use Rattle.table.specs.Table.{rowStart, put, legalSets, legalTable, writtenFrom, writtenRows, written, maxSets}
 use Rattle.table.proofs.Written.{Fitting, written-back, written-legal}
 use Rattle.pages.specs.Bodies.{bodySize, attributesIn}
-use Rattle.replies.specs.Answers.{granted, refused}
-use Rattle.steps.specs.Words.{Result}
+use Rattle.replies.specs.declared.Notice.the-variants.{Unsent}
+use Rattle.replies.specs.Answers.{granted}
+use Rattle.desk.specs.Desk.{newDesk}
+use Rattle.desk.specs.Words.{deskWords}
+use Rattle.steps.specs.Words.{Result, cardOf, unchanged}
 use Rattle.steps.specs.SetUp.{newRecord, attributesFrom, bodies, firstBodies, newSets, newCard, setUpLines, setUpStatus, newTable, setUp, SetUp}
 
 -- ---- the status
@@ -60,33 +63,33 @@ pub new-length : (bytes : List ℕ) → length (newSets bytes) ≡ bodies bytes
 unfolding newSets
 new-length bytes = as-many bytes 0 (bodies bytes)
 
-pub new-header : (bytes : List ℕ) → layoutNumber ∷ bodies bytes ∷ [] ≡ header (newCard bytes)
-new-header bytes = ap (λ (n : ℕ). layoutNumber ∷ n ∷ []) (sym (new-length bytes))
+pub new-header : (bytes : List ℕ) → layoutNumber ∷ bodies bytes ∷ deskWords newDesk ≡ header (newCard bytes)
+new-header bytes = ap (λ (n : ℕ). layoutNumber ∷ n ∷ deskWords newDesk) (sym (new-length bytes))
 
 module _ (bytes ws : List ℕ) (w : Well bytes (length ws)) where
   pub new-fits : Fitting ws (newCard bytes)
-  new-fits = record { range = rw (new-length bytes) (w .range); legal = w .legal; room = rw (new-length bytes) (w .room) }
+  new-fits = record { range = rw (new-length bytes) (w .range); legal = w .legal; room = rw (new-length bytes) (w .room); desk = refl }
 
   pub new-legal-table : legalTable (newTable bytes ws) ≡ true
   new-legal-table = written-legal ws (newCard bytes) new-fits
 
-  pub new-table-back : recordsOf (newTable bytes ws) ≡ newSets bytes
-  new-table-back = ap (λ (c : Card). c .sets) (written-back ws (newCard bytes) new-fits)
+  pub new-table-back : cardOf (newTable bytes ws) ≡ newCard bytes
+  new-table-back = written-back ws (newCard bytes) new-fits
 
 abbrev pub done : List ℕ → List ℕ → Result
-done bytes ws = record { table = newTable bytes ws; answer = granted 0 [] }
+done bytes ws = record { table = newTable bytes ws; answer = granted 0 []; notice = Unsent }
 
 abbrev pub notDone : List ℕ → ℕ → Result
-notDone ws s = record { table = ws; answer = refused s }
+notDone ws s = unchanged ws s
 
 by-status :
     (bytes ws : List ℕ) (s : ℕ) (b : Bool) → s ≡ setUpStatus bytes (length ws) → eqb s 0 ≡ b
-    → (if b then done bytes ws else notDone ws s) .answer .status ≡ 0 → (legalTable ((if b then done bytes ws else notDone ws s) .table) ≡ true) × (recordsOf ((if b then done bytes ws else notDone ws s) .table) ≡ newSets bytes)
+    → (if b then done bytes ws else notDone ws s) .answer .status ≡ 0 → (legalTable ((if b then done bytes ws else notDone ws s) .table) ≡ true) × (cardOf ((if b then done bytes ws else notDone ws s) .table) ≡ newCard bytes)
 by-status bytes ws s true e q h = let w = well bytes (length ws) s e (eqb-true s 0 q) in (new-legal-table bytes ws w, new-table-back bytes ws w)
 by-status bytes ws s false e q h = absurd (eqb-false s 0 q h)
 
 -- set-up that succeeds leaves a legal table that holds the new sets
-pub legal-set-up : (bytes ws : List ℕ) → setUp bytes ws .answer .status ≡ 0 → (legalTable (setUp bytes ws .table) ≡ true) × (recordsOf (setUp bytes ws .table) ≡ newSets bytes)
+pub legal-set-up : (bytes ws : List ℕ) → setUp bytes ws .answer .status ≡ 0 → (legalTable (setUp bytes ws .table) ≡ true) × (cardOf (setUp bytes ws .table) ≡ newCard bytes)
 unfolding setUp
 legal-set-up bytes ws h = by-status bytes ws _ (eqb (setUpStatus bytes (length ws)) 0) refl refl h
 
@@ -108,7 +111,7 @@ status-many : (bytes : List ℕ) (words : ℕ) → maxSets < bodies bytes → se
 unfolding setUpStatus
 status-many bytes words h = rw (lt-leb (bodies bytes) maxSets h, and-false)
 
-pub refused-many : (bytes ws : List ℕ) → maxSets < bodies bytes → setUp bytes ws ≡ record { table = ws; answer = refused badSetUp }
+pub refused-many : (bytes ws : List ℕ) → maxSets < bodies bytes → setUp bytes ws ≡ unchanged ws badSetUp
 unfolding setUp
 refused-many bytes ws h = rw (status-many bytes (length ws) h)
 

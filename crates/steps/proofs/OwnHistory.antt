@@ -1,7 +1,7 @@
 -- Demand 3. Of the items' meanings nothing is used but their shape.
-use mathlib.Core.Path.{_≡_, refl, sym, ap, _∙_}
+use mathlib.Core.Path.{_≡_, refl, sym, ap, ap₂, _∙_}
 use mathlib.Core.Bool.{Bool, true, false, not, _&&_, _||_, or-false, false≢true}
-use mathlib.Core.List.{List, [], _∷_, _++_, map, map-map, append-nil}
+use mathlib.Core.List.{List, [], _∷_, _++_, map, map-map, append-nil, append-assoc}
 use mathlib.Core.Option.{some}
 use mathlib.Core.Logic.{_⊎_, ⊎-elim}
 use Prim.Native.Nat.{ℕ, _+_, _≤_, _<_}
@@ -23,22 +23,26 @@ use Rattle.record.specs.Windows.{byWindow}
 use Rattle.rules.specs.Rules.{isOver}
 use Rattle.commands.specs.declared.Command.{Command}
 use Rattle.commands.specs.declared.Kind.{Kind}
-use Rattle.commands.specs.declared.Kind.the-variants.{SetConfig, SetWindow, GetConfig, GetWindow, ReadLatency, ReadAggregate, Identify}
+use Rattle.commands.specs.declared.Kind.the-variants.{SetNotices, SetConfig, SetWindow, GetNotices, GetConfig, GetWindow, ReadLatency, ReadAggregate, EventRequest, Identify}
 use Rattle.commands.specs.Commands.{commandIn}
 use Rattle.commands.specs.Shapes.{kindOf}
 use Rattle.record.specs.Parts.{idOf}
-use Rattle.replies.specs.Answers.{granted, refused}
-use Rattle.table.specs.Table.{legalSets, listedMarks}
+use Rattle.replies.specs.Answers.{granted, refused, toldOf}
+use Rattle.record.specs.Event.{newlyListed}
+use Rattle.desk.proofs.Sending.{toldIf, told-swap, unserved}
+use Rattle.table.specs.Card.{cardWith}
+use Rattle.table.specs.Table.{legalSets, listedMarks, newly}
 use Rattle.pages.specs.Aggregate.{picked}
 use Rattle.octets.specs.Lists.{nth, first, keep, beside, join}
 use Rattle.steps.specs.Items.{Card, Item, reads, writes, excursion, tick, command, All, Meaning, Nobody, Everybody, The}
 use Rattle.steps.specs.Commanded.{meaningBy, commandMeaning}
 use Rattle.steps.specs.Meanings.{meaning}
-use Rattle.steps.specs.Card.{refusalAll, refusalBy, refusalOf, effectBy, effectOn, ruled, has, names, namesBy, concerns, concernsBy, touched, after, answer, run, trace}
+use Rattle.steps.specs.Card.{refusalAll, refusalBy, refusalOf, effectBy, effectOn, ruled, has, names, namesBy, concerns, concernsBy, touched, setsAfter, atDesk, after, answer, run, trace, notices}
 use Rattle.steps.specs.Demands.{alone, toAllBy, toAll, owns, own, OwnRecord, lived, ByRules, OwnAnswers, Joined, raises, noneCleared, raised, pending, noneOf, Listed, StaysListed, PickedIds, Aggregate, Rising, InOrder, Swap, SwapWithin}
 use Rattle.octets.proofs.Lists.{if-ap, if-cons, map-id, map-same, map-same-if, nth-map, keep-same, keep-map, first-map, first-fixed}
-use Rattle.steps.proofs.ItemShapes.{bool-cases, named, unnamed, answers, fewer-all, fewer, touched-own, touched-not, keeps}
+use Rattle.steps.proofs.ItemShapes.{bool-cases, named, unnamed, answers, refusals, told-named, fewer-all, fewer, touched-own, touched-not, keeps}
 use Rattle.steps.proofs.Slots.{ordered, found}
+use Rattle.steps.proofs.AtDesk.{new-self, run-legal}
 
 -- ---- the items that concern a set are those that name it and, of those that go to every set, those that are carried out
 
@@ -205,12 +209,15 @@ NoClear (Everybody e) = (a : Attributes) (s : State) → e .rule a s .clears ≡
 NoClear (The named o) = Unit {0}
 
 by-kind-clear : (k : Kind) (c : Command) (given : List ℕ) (room : ℕ) → NoClear (meaningBy k c given room)
+by-kind-clear SetNotices c given room = tt
 by-kind-clear SetConfig c given room = tt
 by-kind-clear SetWindow c given room = tt
+by-kind-clear GetNotices c given room = tt
 by-kind-clear GetConfig c given room = tt
 by-kind-clear GetWindow c given room = tt
 by-kind-clear ReadLatency c given room = tt
 by-kind-clear ReadAggregate c given room = tt
+by-kind-clear EventRequest c given room = tt
 by-kind-clear Identify c given room = tt
 
 charge-clear : (b : Bool) (e f : Effect) → e .clears ≡ false → f .clears ≡ false → (if b then e else f) .clears ≡ false
@@ -282,6 +289,11 @@ in-order c is h = keep-rising _ 0 (c .sets) h
 
 -- ---- two items that name different sets
 
+newly-map : (f g : Record → Record) → ((r : Record) → newlyListed (g r) (f (g r)) ≡ newlyListed r (f r)) → (rs : List Record)
+    → newly (map g rs) (map f (map g rs)) ≡ newly rs (map f rs)
+newly-map f g e [] = refl
+newly-map f g e (r ∷ rs) = rw (e r, newly-map f g e rs)
+
 module _ (i j : Item) (a b : ℕ) (p : names a i ≡ true) (q : names b j ≡ true) (h : a ≡ b → ⊥) where
   -- the set that one names is not touched by the other
   aside : (n : ℕ) (r : Record) → a ≡ idOf r → touched n j r ≡ r
@@ -299,12 +311,41 @@ module _ (i j : Item) (a b : ℕ) (p : names a i ≡ true) (q : names b j ≡ tr
       (λ e. cc (touched-not n i r e, touched-not n i (touched n j r) (rw (keeps n j r) e)))
       (bool-cases (concerns n (idOf r) i))
 
+  -- the desk: the other's refusal and what it lists stay
+  look-same : (c : Card) → first (has a) (c .sets) ≡ first (has a) (after c j .sets)
+  look-same c =
+      let n = length (c .sets) in
+      sym (first-fixed (touched n j) (has a) (has-same n a j) (λ r e. aside n r (sym (eqb-true (idOf r) a e))) (c .sets))
+
+  new-apart : (n : ℕ) (r : Record) → newlyListed (touched n j r) (touched n i (touched n j r)) ≡ newlyListed r (touched n i r)
+  new-apart n r =
+      ⊎-elim
+      (λ e. rw (aside n r (eqb-true a (idOf r) (sym (named i a n (idOf r) p) ∙ e))))
+      (λ e. rw (touched-not n i r e, touched-not n i (touched n j r) (rw (keeps n j r) e)) (new-self (touched n j r) ∙ sym (new-self r)))
+      (bool-cases (concerns n (idOf r) i))
+
+  told-after : (c : Card) → atDesk (after c j) i ≡ toldIf (eqb (refusalOf c i) 0) (newly (c .sets) (setsAfter c i)) (atDesk c j .desk)
+  told-after c =
+      let n = length (c .sets) in
+      told-named i a (after c j) p
+      ∙ rw (← refusals i a c (after c j) p (look-same c), length-map, newly-map (touched n i) (touched n j) (new-apart n) (c .sets))
+
 pub swap : Swap
-swap c i j a b p q h =
+swap c i j a b l p q h =
+    let h′ : b ≡ a → ⊥ = λ z. h (sym z) in
+    let s = told-swap (eqb (refusalOf c i) 0) (eqb (refusalOf c j) 0) (newly (c .sets) (setsAfter c i)) (newly (c .sets) (setsAfter c j)) (c .desk) (unserved (c .desk) l) in
+    let ti = told-named i a c p in
+    let tj = told-named j b c q in
+    let tij = told-after j i b a q p h′ c in
+    let tji = told-after i j a b p q h c in
     record {
-      same-sets = simp (length-map, map-map) (map-same _ _ (apart i j a b p q h (length (c .sets))) (c .sets));
+      same-card =
+          ap₂ cardWith
+          (simp (length-map, map-map) (map-same _ _ (apart i j a b p q h (length (c .sets))) (c .sets)))
+          (rw (tij, tji, ti, tj) (s .desk));
       same-first = unseen i j a b p q h c;
-      same-second = sym (unseen j i b a q p (λ z. h (sym z)) c);
+      same-second = sym (unseen j i b a q p h′ c);
+      same-notices = rw (tij, tji, ti, tj, append-nil, append-nil) (s .notices);
     }
 
 -- ---- inside a history
@@ -317,14 +358,26 @@ trace-append : (is js : List Item) (c : Card) → trace c (is ++ js) ≡ trace c
 trace-append [] js c = refl
 trace-append (i ∷ is) js c = ap (answer c i ∷_) (trace-append is js (after c i))
 
+notices-append : (is js : List Item) (c : Card) → notices c (is ++ js) ≡ notices c is ++ notices (run c is) js
+notices-append [] js c = refl
+notices-append (i ∷ is) js c =
+    ap (toldOf (atDesk c i .notice) ++_) (notices-append is js (after c i))
+    ∙ sym (append-assoc (toldOf (atDesk c i .notice)) (notices (after c i) is) (notices (run (after c i) is) js))
+
 pub swap-within : SwapWithin
-swap-within c before i j later a b p q h =
+swap-within c before i j later a b l p q h =
     let d = run c before in
-    let w = swap d i j a b p q h in
-    let both : run d (i ∷ j ∷ []) ≡ run d (j ∷ i ∷ []) = ap (λ (rs : List Record). record { sets = rs }) (w .same-sets) in
+    let w = swap d i j a b (run-legal before c l) p q h in
+    let both = w .same-card in
     let middle : run c (before ++ i ∷ j ∷ []) ≡ run d (i ∷ j ∷ []) = run-append before (i ∷ j ∷ []) c in
+    let ni = notices-append (i ∷ j ∷ []) later d in
+    let nj = notices-append (j ∷ i ∷ []) later d in
     record {
-      same-sets = rw (run-append before (i ∷ j ∷ later) c, run-append before (j ∷ i ∷ later) c) (ap (λ (x : Card). run x later .sets) both);
+      same-card = rw (run-append before (i ∷ j ∷ later) c, run-append before (j ∷ i ∷ later) c) (ap (λ (x : Card). run x later) both);
       one-way = rw (trace-append before (i ∷ j ∷ later) c, middle, w .same-second);
       other-way = rw (trace-append before (j ∷ i ∷ later) c, middle, both, w .same-first);
+      same-notices =
+          notices-append before (i ∷ j ∷ later) c
+          ∙ ap (notices c before ++_) (ni ∙ cc (both, w .same-notices) ∙ sym nj)
+          ∙ sym (notices-append before (j ∷ i ∷ later) c);
     }

@@ -12,14 +12,13 @@ use Rattle.octets.specs.Choice.{if_then_else_}
 use Rattle.octets.proofs.JoinedTests.{both}
 use Rattle.record.specs.Legal.{inRange}
 use Rattle.replies.specs.Numbers.{badTable}
-use Rattle.replies.specs.Answers.{refused}
 use Rattle.table.specs.Table.{count, rowStart, sized, legalTable, written, maxSets}
 use Rattle.table.proofs.LegalTables.{length-records}
 use Rattle.table.proofs.Written.{length-written, written-rest}
-use Rattle.table.proofs.PastTheTable.{written-past, records-past, legal-past}
+use Rattle.table.proofs.PastTheTable.{written-past, card-past, legal-past}
 use Rattle.steps.specs.Items.{Card, Item}
-use Rattle.steps.specs.Card.{after, answer}
-use Rattle.steps.specs.Words.{Result, cardOf, stepWords}
+use Rattle.steps.specs.Card.{atDesk, after, answer}
+use Rattle.steps.specs.Words.{Result, cardOf, unchanged, stepWords}
 use Rattle.steps.specs.SetUp.{bodies, newCard, setUpStatus, newTable, setUp}
 use Rattle.steps.specs.PastTheTable.{past, beside, NotRead, SetUpNotRead, NotWritten, SetUpNotWritten}
 use Rattle.steps.proofs.ItemShapes.{bool-cases}
@@ -32,22 +31,19 @@ unfolding legalTable
 unsized ws h = rw h
 
 -- where the header is wrong, or the words are too few, there is no table
-pub step-unsized : (ws : List ℕ) (i : Item) → sized ws ≡ false → stepWords ws i ≡ record { table = ws; answer = refused badTable }
+pub step-unsized : (ws : List ℕ) (i : Item) → sized ws ≡ false → stepWords ws i ≡ unchanged ws badTable
 step-unsized ws i h = step-bad ws i (unsized ws h)
 
 module _ (more ws : List ℕ) where
   module _ (room : rowStart (count ws) ≤ length ws) (i : Item) where
-    same-card : cardOf (ws ++ more) ≡ cardOf ws
-    same-card = rw (records-past more ws room)
-
     abbrev stepped : Card → Result
-    stepped c = record { table = written (ws ++ more) (after c i); answer = answer c i }
+    stepped c = record { table = written (ws ++ more) (after c i); answer = answer c i; notice = atDesk c i .notice }
 
     legal-beside : legalTable ws ≡ true → stepWords (ws ++ more) i ≡ beside (stepWords ws i) more
     legal-beside e =
         let as-many : length (after (cardOf ws) i .sets) ≡ count ws = simp length-map (length-records ws) in
         step-legal (ws ++ more) i (legal-past more ws room ∙ e)
-        ∙ ap stepped same-card
+        ∙ ap stepped (card-past more ws room)
         ∙ rw (step-legal ws i e, written-past more ws (after (cardOf ws) i) (rw as-many room))
 
     step-past : stepWords (ws ++ more) i ≡ beside (stepWords ws i) more

@@ -12,22 +12,23 @@ use lib.Dec.{eqb}
 use lib.ListN.{length}
 use Rattle.record.specs.declared.Record.{Record}
 use Rattle.record.specs.Parts.{idOf}
-use Rattle.record.specs.Event.{settled}
+use Rattle.record.specs.Event.{settled, newlyListed}
+use Rattle.desk.specs.Desk.{Told, settle}
 use Rattle.replies.specs.Numbers.{badTable}
-use Rattle.replies.specs.Answers.{refused}
 use Rattle.table.specs.declared.Found.{Found}
 use Rattle.table.specs.declared.Found.the-variants.{At, Nothing}
 use Rattle.table.specs.Layout.{wordsOf, recordOf}
-use Rattle.table.specs.Table.{count, rowStart, row, put, rowsFrom, recordsOf, legalTable, findFrom, findIn, written}
+use Rattle.table.specs.Table.{count, deskAt, withDesk, rowStart, row, put, rowsFrom, recordsOf, legalTable, findFrom, findIn, written}
 use Rattle.table.proofs.LegalTables.{legal-known, length-records, sets-known}
 use Rattle.table.proofs.Written.{written-own, written-one}
 use Rattle.octets.specs.Lists.{nth, first}
 use Rattle.steps.specs.Items.{Item, One, The}
 use Rattle.steps.specs.Meanings.{meaning}
-use Rattle.steps.specs.Card.{refusalAt, unknownAt, refusalOne, refusalOf, effectOn, ruled, has, names, after, answer}
-use Rattle.steps.specs.Words.{cardOf, stepWords}
+use Rattle.steps.specs.Card.{refusalAt, unknownAt, refusalOne, refusalOf, effectOn, ruled, has, names, atDesk, after, answer}
+use Rattle.steps.specs.Words.{cardOf, unchanged, stepWords}
 use Rattle.steps.proofs.ItemShapes.{bool-cases}
 use Rattle.steps.proofs.Slots.{found, refused-answer, refused-sets, at-slot}
+use Rattle.steps.proofs.AtDesk.{at-refused, told-at}
 
 -- ---- where a search ends
 
@@ -111,25 +112,25 @@ here ws id k e f =
 
 -- ---- the step on words
 
-pub step-bad : (ws : List ℕ) (i : Item) → legalTable ws ≡ false → stepWords ws i ≡ record { table = ws; answer = refused badTable }
+pub step-bad : (ws : List ℕ) (i : Item) → legalTable ws ≡ false → stepWords ws i ≡ unchanged ws badTable
 unfolding stepWords
 step-bad ws i e = rw e
 
 pub step-legal :
     (ws : List ℕ) (i : Item) → legalTable ws ≡ true
-    → stepWords ws i ≡ record { table = written ws (after (cardOf ws) i); answer = answer (cardOf ws) i }
+    → stepWords ws i ≡ record { table = written ws (after (cardOf ws) i); answer = answer (cardOf ws) i; notice = atDesk (cardOf ws) i .notice }
 unfolding stepWords
 step-legal ws i e = rw e
 
 -- a refusal leaves the words as they were
 pub step-refused :
     (ws : List ℕ) (i : Item) (s : ℕ) → legalTable ws ≡ true → refusalOf (cardOf ws) i ≡ s → (s ≡ 0 → ⊥)
-    → stepWords ws i ≡ record { table = ws; answer = refused s }
+    → stepWords ws i ≡ unchanged ws s
 step-refused ws i s e q n =
     let l = legal-known ws e in
     let z : eqb (refusalOf (cardOf ws) i) 0 ≡ false = ne-eqb _ _ (λ t. n (sym q ∙ t)) in
     step-legal ws i e
-    ∙ rw (refused-sets (cardOf ws) i (sets-known ws l) z, written-own ws l, refused-answer (cardOf ws) i z, q)
+    ∙ rw (refused-sets (cardOf ws) i (sets-known ws l) z, at-refused (cardOf ws) i z, written-own ws l, refused-answer (cardOf ws) i z, q)
 
 -- ---- an item that names a set
 
@@ -139,7 +140,7 @@ module _ (ws : List ℕ) (i : Item) (id : ℕ) (o : One) (m : meaning i ≡ The 
   status-is x f = rw (m, f)
 
   -- no set has its identifier
-  pub step-unknown : findIn ws id ≡ Nothing → (unknownAt o ≡ 0 → ⊥) → stepWords ws i ≡ record { table = ws; answer = refused (unknownAt o) }
+  pub step-unknown : findIn ws id ≡ Nothing → (unknownAt o ≡ 0 → ⊥) → stepWords ws i ≡ unchanged ws (unknownAt o)
   unfolding findIn
   step-unknown f n = step-refused ws i (unknownAt o) e (status-is none (miss id 0 (recordsOf ws) f)) n
 
@@ -152,7 +153,7 @@ module _ (ws : List ℕ) (i : Item) (id : ℕ) (o : One) (m : meaning i ≡ The 
     names-it = rw m (eq-eqb id _ (sym (it .same)))
 
     -- refused by what it asks of the set
-    pub step-late : (s : ℕ) → refusalAt o (recordOf (row ws k) .attributes) (recordOf (row ws k) .state) ≡ s → (s ≡ 0 → ⊥) → stepWords ws i ≡ record { table = ws; answer = refused s }
+    pub step-late : (s : ℕ) → refusalAt o (recordOf (row ws k) .attributes) (recordOf (row ws k) .state) ≡ s → (s ≡ 0 → ⊥) → stepWords ws i ≡ unchanged ws s
     step-late s q n = step-refused ws i s e (status-is _ (it .look) ∙ q) n
 
     effect-is : refusalAt o (recordOf (row ws k) .attributes) (recordOf (row ws k) .state) ≡ 0
@@ -164,20 +165,30 @@ module _ (ws : List ℕ) (i : Item) (id : ℕ) (o : One) (m : meaning i ≡ The 
     unfolding answer
     answer-is z = rw (m, it .look, z)
 
-    -- carried out: its slot holds the record after the rule, and nothing else changes
+    -- the record after it, and the desk: whether its set was listed by it
+    abbrev ruledTo : Record
+    ruledTo = settled (recordOf (row ws k)) (o .rule (recordOf (row ws k) .attributes) (recordOf (row ws k) .state))
+
+    abbrev toldTo : Told
+    toldTo = settle (newlyListed (recordOf (row ws k)) ruledTo) (deskAt ws)
+
+    told-is : refusalAt o (recordOf (row ws k) .attributes) (recordOf (row ws k) .state) ≡ 0 → atDesk (cardOf ws) i ≡ toldTo
+    told-is z =
+        let l = legal-known ws e in
+        told-at (cardOf ws) i k (recordOf (row ws k)) (sets-known ws l) (record-at ws k (it .below)) names-it (status-is _ (it .look) ∙ z)
+        ∙ ap (λ (x : Record). settle (newlyListed (recordOf (row ws k)) x) (deskAt ws)) (effect-is z)
+
+    -- carried out: its slot holds the record after the rule, the desk what that made of it, and nothing else changes
     pub step-done :
         refusalAt o (recordOf (row ws k) .attributes) (recordOf (row ws k) .state) ≡ 0
-        → stepWords ws i
-        ≡ record {
-          table = put ws k (wordsOf (settled (recordOf (row ws k)) (o .rule (recordOf (row ws k) .attributes) (recordOf (row ws k) .state))));
-          answer = o .done (recordOf (row ws k));
-        }
+        → stepWords ws i ≡ record { table = withDesk (put ws k (wordsOf ruledTo)) (toldTo .desk); answer = o .done (recordOf (row ws k)); notice = toldTo .notice }
     step-done z =
         let l = legal-known ws e in
         let r = recordOf (row ws k) in
         step-legal ws i e
         ∙ rw (
           written-one ws l (after (cardOf ws) i) k (ruled i r) (at-slot (cardOf ws) i k r (sets-known ws l) (record-at ws k (it .below)) names-it) (it .below),
+          told-is z,
           effect-is z,
           answer-is z,
         )

@@ -36,7 +36,7 @@ use Rattle.pages.proofs.Back.{data-back}
 use Rattle.octets.specs.Lists.{first}
 use Rattle.commands.specs.declared.Command.{Command}
 use Rattle.commands.specs.declared.Kind.{Kind}
-use Rattle.commands.specs.declared.Kind.the-variants.{SetConfig, SetWindow, GetConfig, GetWindow, ReadLatency, ReadAggregate, Identify}
+use Rattle.commands.specs.declared.Kind.the-variants.{SetNotices, SetConfig, SetWindow, GetNotices, GetConfig, GetWindow, ReadLatency, ReadAggregate, EventRequest, Identify}
 use Rattle.steps.specs.Items.{Card, Item, reads, writes, excursion, tick, command, One, Meaning, Nobody, Everybody, The}
 use Rattle.commands.specs.Commands.{featureSet, enable, windowValue, causeBy, windowCause, retain, commandIn}
 use Rattle.commands.specs.Shapes.{kindOf, needsOut}
@@ -45,7 +45,8 @@ use Rattle.steps.specs.Commanded.{modeNo, named, meaningBy, commandMeani
 use Rattle.steps.specs.Meanings.{meaning}
 use Rattle.steps.specs.Card.{refusalAt, refusalOne, refusalBy, refusalOf, has, effectBy, effectOn, concernsBy, concerns, touched, after, answer, run}
 use Rattle.steps.specs.Demands.{stores13, configures, noneConfigures, ConfigStored, shownWindow, windowOf, noneMoves, WindowStored}
-use Rattle.steps.proofs.ExactRefusals.{answers}
+use Rattle.steps.specs.Rows.{carriedOut}
+use Rattle.steps.proofs.ExactRefusals.{number-tells, not-refused}
 use Rattle.octets.proofs.Lists.{first-map, first-passes}
 use Rattle.steps.proofs.ItemShapes.{bool-cases, touched-own, touched-not, keeps}
 use Rattle.steps.proofs.OwnHistory.{has-same}
@@ -135,12 +136,15 @@ Mild id (Everybody e) = (a : Attributes) (s : State) → Kept s (e .rule a s .st
 Mild id (The named o) = eqb named id ≡ true → (a : Attributes) (s : State) → Kept s (o .rule a s .state)
 
 by-kind : (id : ℕ) (k : Kind) (c : Command) (given : List ℕ) (room : ℕ) → stores13 k && eqb (featureSet c) id ≡ false → Mild id (meaningBy k c given room)
+by-kind id SetNotices c given room h = tt
 by-kind id SetConfig c given room h = λ e. absurd (let z : _≡_ {A = ℕ} 0 1 = cc in omega arith)
 by-kind id SetWindow c given room h = λ e a s. select-kept (eqb (windowValue c) 1) a s
+by-kind id GetNotices c given room h = tt
 by-kind id GetConfig c given room h = λ e a s. same s
 by-kind id GetWindow c given room h = λ e a s. same s
 by-kind id ReadLatency c given room h = λ e a s. by-test (retain c) s _ _ (same s) (same s)
 by-kind id ReadAggregate c given room h = tt
+by-kind id EventRequest c given room h = tt
 by-kind id Identify c given room h = tt
 
 command-mild : (id : ℕ) (bytes given : List ℕ) (room : ℕ) → configures id (command bytes given room) ≡ false → Mild id (commandMeaning bytes given room)
@@ -209,10 +213,11 @@ later : (is : List Item) (c : Card) (id : ℕ) (r : Record) → first (has id) (
 later [] c id r f e h = record { found = r; there = f; kept = same (r .state) }
 later (i ∷ is) c id r f e h =
     let n = length (c .sets) in
-    let b = both (not (configures id i && eqb (refusalOf c i) 0)) _ h in
+    let b = both (not (configures id i && carriedOut (answer c i .status))) _ h in
+    let g : configures id i && eqb (refusalOf c i) 0 ≡ false = rw (← number-tells c i) (not-true (configures id i && carriedOut (answer c i .status)) (b .0)) in
     let f′ : first (has id) (after c i .sets) ≡ some (touched n i r) = first-map (touched n i) (has id) (has-same n id i) (c .sets) ∙ rw f in
     let k = unstored c i r (subst (λ (x : ℕ). first (has x) (c .sets) ≡ some r) (sym e) f)
-    (subst (λ (x : ℕ). configures x i && eqb (refusalOf c i) 0 ≡ false) (sym e) (not-true (configures id i && eqb (refusalOf c i) 0) (b .0))) in
+    (subst (λ (x : ℕ). configures x i && eqb (refusalOf c i) 0 ≡ false) (sym e) g) in
     let l = later is (after c i) id (touched n i r) f′ (keeps n i r ∙ e) (b .1) in
     record { found = l .found; there = l .there; kept = then-kept (r .state) (touched n i r .state) (l .found .state) k (l .kept) }
 
@@ -272,8 +277,8 @@ whole-data c given room a s h =
 
 pub config-stored : ConfigStored
 config-stored c bytes given room is bytes′ given′ room′ each k a h k′ q a′ =
-    let z = sym (answers c (command bytes given room)) ∙ a in
-    let z′ = sym (answers (run c (command bytes given room ∷ is)) (command bytes′ given′ room′)) ∙ a′ in
+    let z = not-refused c (command bytes given room) a in
+    let z′ = not-refused (run c (command bytes given room ∷ is)) (command bytes′ given′ room′) a′ in
     let C = commandIn bytes in
     let id = featureSet C in
     let i = command bytes given room in
@@ -329,8 +334,8 @@ asked-window c given room a s h =
 
 pub window-stored : WindowStored
 window-stored c bytes given room is bytes′ given′ room′ k a h k′ q a′ =
-    let z = sym (answers c (command bytes given room)) ∙ a in
-    let z′ = sym (answers (run c (command bytes given room ∷ is)) (command bytes′ given′ room′)) ∙ a′ in
+    let z = not-refused c (command bytes given room) a in
+    let z′ = not-refused (run c (command bytes given room ∷ is)) (command bytes′ given′ room′) a′ in
     let C = commandIn bytes in
     let id = featureSet C in
     let i = command bytes given room in

@@ -18,13 +18,14 @@ use Rattle.record.specs.Parts.{idOf}
 use Rattle.rules.specs.Rules as rules
 use Rattle.rules.proofs.Staying.{KeepsConfig, read-stays, write-stays, excursion-stays, tick-stays, select-stays}
 use Rattle.table.specs.Table.{recordsOf, legalSets}
-use Rattle.table.proofs.LegalTables.{legal-known, length-records, sets-known}
+use Rattle.table.proofs.LegalTables.{legal-known, desk-there, length-records, sets-known}
+use Rattle.table.proofs.Desks.{desk-legal}
 use Rattle.table.proofs.WordsFit.{Fits, fits-of, words-fit, AllFit, records-fit, written-fit}
 use Rattle.pages.specs.Features.{Words}
 use Rattle.pages.proofs.Back.{read-words}
 use Rattle.commands.specs.declared.Command.{Command}
 use Rattle.commands.specs.declared.Kind.{Kind}
-use Rattle.commands.specs.declared.Kind.the-variants.{SetConfig, SetWindow, GetConfig, GetWindow, ReadLatency, ReadAggregate, Identify}
+use Rattle.commands.specs.declared.Kind.the-variants.{SetNotices, SetConfig, SetWindow, GetNotices, GetConfig, GetWindow, ReadLatency, ReadAggregate, EventRequest, Identify}
 use Rattle.commands.specs.Commands.{windowCause, retain, commandIn}
 use Rattle.commands.specs.Shapes.{kindOf}
 use Rattle.steps.specs.Items.{Item, reads, writes, excursion, tick, command, GivenBytes, Meaning, Nobody, Everybody, The}
@@ -35,6 +36,7 @@ use Rattle.steps.specs.Words.{cardOf}
 use Rattle.steps.specs.Demands.{WordsStay}
 use Rattle.steps.proofs.ItemShapes.{bool-cases, touched-own, touched-not}
 use Rattle.steps.proofs.Slots.{ordered}
+use Rattle.steps.proofs.AtDesk.{desk-kept}
 use Rattle.steps.proofs.KeptLegal.{touched-kept}
 use Rattle.steps.proofs.StepOnWords.{step-legal}
 
@@ -57,12 +59,15 @@ Sound (Everybody e) = Keeps (e .rule)
 Sound (The id o) = Keeps (o .rule)
 
 by-kind : (k : Kind) (c : Command) (given : List ℕ) (room : ℕ) → AllBytes given → Sound (meaningBy k c given room)
+by-kind SetNotices c given room each = tt
 by-kind SetConfig c given room each = λ a s w. read-words given each
 by-kind SetWindow c given room each = stays (rules.selecting (windowCause c)) (select-stays (windowCause c))
+by-kind GetNotices c given room each = tt
 by-kind GetConfig c given room each = λ a s w. w
 by-kind GetWindow c given room each = λ a s w. w
 by-kind ReadLatency c given room each = λ a s w. by-test (retain c) (rules.still s) (rules.clearingRead s) w w
 by-kind ReadAggregate c given room each = tt
+by-kind EventRequest c given room each = tt
 by-kind Identify c given room each = tt
 
 sound : (i : Item) → GivenBytes i → Sound (meaning i)
@@ -115,4 +120,4 @@ words-stay ws i e each g =
     let many : length (after (cardOf ws) i .sets) ≡ length (recordsOf ws) = simp length-map in
     let few : length (after (cardOf ws) i .sets) < 2 ^ 64 = omega (arith, many, length-records ws, l .few) in
     rw (step-legal ws i e)
-    (written-fit ws (after (cardOf ws) i) each few (all-fit i g (length (recordsOf ws)) 0 (recordsOf ws) (sets-known ws l) (records-fit ws e each)))
+    (written-fit ws (after (cardOf ws) i) each few (all-fit i g (length (recordsOf ws)) 0 (recordsOf ws) (sets-known ws l) (records-fit ws e each)) (desk-kept (cardOf ws) i (desk-legal ws (desk-there ws l))))

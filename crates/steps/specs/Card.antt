@@ -15,13 +15,17 @@ use Rattle.record.specs.Parts.{idOf}
 use Rattle.record.specs.Event.{settled}
 use Rattle.replies.specs.Numbers.{tooShort}
 use Rattle.replies.specs.Status.{line, firstOf}
-use Rattle.replies.specs.Answers.{Answer, granted, refused}
+use Rattle.replies.specs.declared.Notice.{Notice}
+use Rattle.replies.specs.Answers.{Answer, granted, refused, toldOf}
+use Rattle.desk.specs.Desk.{Desk, Told, quiet, settle}
 use Rattle.rules.specs.Rules.{still}
 use Rattle.octets.specs.Lists.{first, join}
+use Rattle.table.specs.Card.{cardWith}
+use Rattle.table.specs.Table.{newly}
 use Rattle.steps.specs.Items.{Card, Item, One, All, Meaning, Nobody, Everybody, The}
 use Rattle.steps.specs.Meanings.{meaning}
 
--- ---- the status: the first refusal that holds, or 0
+-- ---- the refusal: the number of the first row that holds, or 0 where the item is carried out
 
 -- of an item that names a set, where no set has that identifier, and where this one has
 abbrev pub unknownAt : One → ℕ
@@ -87,8 +91,28 @@ concerns n id i = concernsBy (meaning i) n id
 unfoldable pub touched : ℕ → Item → Record → Record
 touched n i r = if concerns n (idOf r) i then ruled i r else r
 
+abbrev pub setsAfter : Card → Item → List Record
+setsAfter c i = map (touched (length (c .sets)) i) (c .sets)
+
+-- what an item that is carried out does to the desk by itself
+abbrev pub deskBy : Meaning → Desk → Desk
+deskBy (Nobody v) d = v .desk d
+deskBy (Everybody a) d = d
+deskBy (The id o) d = d
+
+unfoldable pub deskOn : Item → Desk → Desk
+deskOn i d = deskBy (meaning i) d
+
+-- 02: "When an item lists one or more sets that weren't listed": asked once, over the whole item. At the end of every item that is
+-- carried out, and nowhere else, a notice is sent or remembered.
+unfoldable pub atDesk : Card → Item → Told
+atDesk c i =
+    if eqb (refusalOf c i) 0
+    then settle (newly (c .sets) (setsAfter c i)) (deskOn i (c .desk))
+    else quiet (c .desk)
+
 abbrev pub after : Card → Item → Card
-after c i = record { sets = map (touched (length (c .sets)) i) (c .sets) }
+after c i = cardWith (setsAfter c i) (atDesk c i .desk)
 
 -- what is answered where nothing refuses
 abbrev pub doneOne : One → Option Record → Answer
@@ -106,14 +130,16 @@ answerBy m c = if eqb (refusalBy m c) 0 then doneBy m c else refused (refusalBy 
 unfoldable pub answer : Card → Item → Answer
 answer c i = answerBy (meaning i) c
 
+-- the card afterwards, the answer, and the notice that may go beside it
 pub record Outcome : Type 0 where
   pub card : Card
   pub answer : Answer
+  pub notice : Notice
 
 abbrev pub step : Card → Item → Outcome
-step c i = record { card = after c i; answer = answer c i }
+step c i = record { card = after c i; answer = answer c i; notice = atDesk c i .notice }
 
--- ---- many items
+-- ---- many items: the card after them, and their answers; notices stand beside these, and demand 3 leaves them out
 
 abbrev pub run : Card → List Item → Card
 run c [] = c
@@ -122,3 +148,8 @@ run c (i ∷ is) = run (step c i .card) is
 abbrev pub trace : Card → List Item → List Answer
 trace c [] = []
 trace c (i ∷ is) = step c i .answer ∷ trace (step c i .card) is
+
+-- the identifiers of the requests that notices completed, in their order
+abbrev pub notices : Card → List Item → List ℕ
+notices c [] = []
+notices c (i ∷ is) = toldOf (step c i .notice) ++ notices (step c i .card) is

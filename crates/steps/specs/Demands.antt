@@ -22,9 +22,13 @@ use Rattle.record.specs.Parts.{idOf}
 use Rattle.record.specs.Event.{bit, anyEnabled}
 use Rattle.record.specs.Windows.{windowNo}
 use Rattle.replies.specs.Numbers.{success, badTable}
+use Rattle.replies.specs.declared.Notice.{Notice}
+use Rattle.replies.specs.declared.Notice.the-variants.{Unsent}
 use Rattle.replies.specs.declared.Reply.{Reply}
-use Rattle.replies.specs.Answers.{Answer, granted, refused, refusing}
-use Rattle.table.specs.Table.{legalSets, legalTable, written, listedMarks, recordsOf}
+use Rattle.replies.specs.Answers.{Answer, granted, refused, refusing, toldOf}
+use Rattle.desk.specs.Desk.{newDesk, legalDesk}
+use Rattle.table.specs.Card.{cardWith}
+use Rattle.table.specs.Table.{legalSets, legalTable, written, listedMarks}
 use Rattle.pages.specs.Features.{handedBack}
 use Rattle.pages.specs.Aggregate.{picked, aggregatePage}
 use Rattle.octets.specs.Lists.{nth, first, keep, beside, join}
@@ -34,19 +38,21 @@ use Rattle.commands.specs.declared.Kind.the-variants.{SetConfig, SetWindow, Get
 use Rattle.commands.specs.Commands.{dwordSize, commandIn, featureSet, enable, windowValue, offset, dwords}
 use Rattle.commands.specs.Shapes.{setOpcode, configFid, hasOpcode, hasChoice, kindOf, isNamed, namedBy}
 use Rattle.steps.specs.Meanings.{meaning}
-use Rattle.steps.specs.Card.{effectOn, ruled, refusalOf, has, names, answer, step, run, trace}
-use Rattle.steps.specs.Words.{cardOf, stepWords, Answered, Handed}
+use Rattle.steps.specs.Card.{effectOn, ruled, refusalOf, has, names, answer, step, run, trace, notices}
+use Rattle.steps.specs.Commanded.{doing}
+use Rattle.steps.specs.Words.{cardOf, unchanged, stepWords, Answered, Handed}
 use Rattle.rules.specs.declared.Media.{Media}
-use Rattle.steps.specs.Rows.{Told, commandRows, eventRows, tickRows}
-use Rattle.steps.specs.SetUp.{newSets, setUpLines, setUpStatus, setUp}
+use Rattle.steps.specs.Rows.{Told, carriedOut, commandRows, eventRows, tickRows}
+use Rattle.steps.specs.SetUp.{setUpLines, setUpStatus, newCard, setUp}
 
 -- ==== demand 1: "with success or with the one refusal that document 01 names for that input"
 
--- "A refused call gives dword 0 as zero and no data, and changes no byte of the table": on the card, no set
+-- "A refused call gives dword 0 as zero and no data, and changes no byte of the table": on the card, no set and no waiting request; and
+-- no notice goes beside it
 abbrev pub Refused : Type 0
 Refused =
     (c : Card) (i : Item) → legalSets 0 (c .sets) ≡ true → (refusalOf c i ≡ 0 → ⊥)
-    → (answer c i ≡ refused (refusalOf c i)) × (step c i .card .sets ≡ c .sets)
+    → step c i ≡ record { card = c; answer = refused (refusalOf c i); notice = Unsent }
 
 -- and on the lent words, "however damaged": the refusal of an item that is handed in with them
 abbrev pub refusalWords : List ℕ → Item → ℕ
@@ -54,11 +60,22 @@ refusalWords ws i = if legalTable ws then refusalOf (cardOf ws) i else badTable
 
 abbrev pub RefusedWords : Type 0
 RefusedWords =
-    (ws : List ℕ) (i : Item) → (refusalWords ws i ≡ 0 → ⊥) → stepWords ws i ≡ record { table = ws; answer = refused (refusalWords ws i) }
+    (ws : List ℕ) (i : Item) → (refusalWords ws i ≡ 0 → ⊥) → stepWords ws i ≡ unchanged ws (refusalWords ws i)
 
--- an item that is not refused answers, today, with success and no other number
+-- an item that is not refused answers with success; a request, 02: "07C8h (waiting, no refusal)"
+abbrev pub carriedStatus : Item → ℕ
+carriedStatus (reads id k) = success
+carriedStatus (writes id k) = success
+carriedStatus (excursion id) = success
+carriedStatus (tick t room) = success
+carriedStatus (command bytes given room) = doing (kindOf (commandIn bytes)) .status
+
 abbrev pub CarriedOut : Type 0
-CarriedOut = (c : Card) (i : Item) → refusalOf c i ≡ 0 → answer c i .status ≡ success
+CarriedOut = (c : Card) (i : Item) → refusalOf c i ≡ 0 → answer c i .status ≡ carriedStatus i
+
+-- so that the number alone tells whether it was carried out
+abbrev pub NumberTells : Type 0
+NumberTells = (c : Card) (i : Item) → carriedOut (answer c i .status) ≡ eqb (refusalOf c i) 0
 
 -- "the one refusal that document 01 names for that input", exactly then: on any words, by 01's rows for commands, media events, ticks
 abbrev pub Exactly : Type 0
@@ -80,9 +97,9 @@ RefusedBuffer =
 -- of the call that hands back the written part: no part
 abbrev pub RefusedHanded : Type 0
 RefusedHanded =
-    (ws : List ℕ) (i : Item) (room : ℕ) (words : List ℕ) (status dword : ℕ) (part : List ℕ) → (refusalWords ws i ≡ 0 → ⊥)
-    → Handed ws i room words status dword part
-    → (status ≡ refusalWords ws i) × (dword ≡ 0) × (part ≡ []) × (words ≡ ws)
+    (ws : List ℕ) (i : Item) (room : ℕ) (words : List ℕ) (status dword told to : ℕ) (part : List ℕ) → (refusalWords ws i ≡ 0 → ⊥)
+    → Handed ws i room words status dword told to part
+    → (status ≡ refusalWords ws i) × (dword ≡ 0) × (told ≡ 0) × (to ≡ 0) × (part ≡ []) × (words ≡ ws)
 
 -- the same of set-up, which is no item; and what it leaves where it succeeds
 abbrev pub SetUpExactly : Type 0
@@ -91,12 +108,12 @@ SetUpExactly = (bytes ws : List ℕ) → Told (setUpLines bytes (length ws)) (se
 abbrev pub SetUpRefused : Type 0
 SetUpRefused =
     (bytes ws : List ℕ) → (setUpStatus bytes (length ws) ≡ 0 → ⊥)
-    → setUp bytes ws ≡ record { table = ws; answer = refused (setUpStatus bytes (length ws)) }
+    → setUp bytes ws ≡ unchanged ws (setUpStatus bytes (length ws))
 
 abbrev pub SetUpLegal : Type 0
 SetUpLegal =
     (bytes ws : List ℕ) → setUp bytes ws .answer .status ≡ 0
-    → (legalTable (setUp bytes ws .table) ≡ true) × (recordsOf (setUp bytes ws .table) ≡ newSets bytes)
+    → (legalTable (setUp bytes ws .table) ≡ true) × (cardOf (setUp bytes ws .table) ≡ newCard bytes)
 
 -- ==== demand 3: "Start from any legal table and take any sequence of items, refused ones included, with no new set-up in it."
 -- Where a legal table is needed, `legalSets` says so. A set is the record in a slot, which keeps its place.
@@ -104,9 +121,9 @@ SetUpLegal =
 -- ---- "For each set, its record and the answers to items naming it are those reached under demand 2's rules by that set alone,
 -- from its starting record and the items naming it and the ticks, in their order."
 
--- "that set alone": the card that holds just this set
+-- "that set alone": the card that holds just this set, on which no request waits (02: "Demand 3 leaves notices out")
 abbrev pub alone : Record → Card
-alone r = record { sets = r ∷ [] }
+alone r = cardWith (r ∷ []) newDesk
 
 -- "the items naming it and the ticks, in their order". A tick goes to every set, unless it is refused; its status goes by the
 -- number of sets and not by what they hold, so that the starting card tells it.
@@ -119,7 +136,7 @@ unfoldable pub toAll : Item → Bool
 toAll i = toAllBy (meaning i)
 
 -- which items these are: "The items that name a set are events other than ticks, feature commands and reads of 0Ah; Identify and
--- 0Bh name none."
+-- 0Bh name none.", and 02: "Opcode 0Ch and FID 0Bh .. name no set"
 abbrev pub namesIn : ℕ → Item → Bool
 namesIn id (reads named k) = eqb named id
 namesIn id (writes named k) = eqb named id
@@ -245,29 +262,35 @@ InOrder = (c : Card) (items : List Item) → legalSets 0 (c .sets) ≡ true → 
 
 -- ---- "So two neighbouring items that name different sets may change places, and no record and no answer changes with them."
 
+-- 02: "Demand 3 leaves notices out: swapping may move one to the other item." So all of the card is the same, the desk too, and so is
+-- the list of notices; only which of the two items has one beside it may change.
 pub record Swapped (c : Card) (i j : Item) : Type 0 where
-  pub same-sets : run c (i ∷ j ∷ []) .sets ≡ run c (j ∷ i ∷ []) .sets
+  pub same-card : run c (i ∷ j ∷ []) ≡ run c (j ∷ i ∷ [])
   pub same-first : answer c i ≡ answer (step c j .card) i
   pub same-second : answer (step c i .card) j ≡ answer c j
+  pub same-notices : notices c (i ∷ j ∷ []) ≡ notices c (j ∷ i ∷ [])
 
+-- from a desk with no flag that could be served: without that the flag itself may differ (`SwapAsks` of Notices.antt)
 abbrev pub Swap : Type 0
-Swap = (c : Card) (i j : Item) (a b : ℕ) → names a i ≡ true → names b j ≡ true → (a ≡ b → ⊥) → Swapped c i j
+Swap =
+    (c : Card) (i j : Item) (a b : ℕ) → legalDesk (c .desk) ≡ true → names a i ≡ true → names b j ≡ true → (a ≡ b → ⊥) → Swapped c i j
 
--- Inside any history: the same sets afterwards, the same answers before, the two items' own answers with them, and the same
--- answers later, of the items that name no set too.
+-- Inside any history: the same card afterwards, the same answers before, the two items' own answers with them, and the same
+-- answers later, of the items that name no set too; and the same notices.
 pub record SwappedWithin (c : Card) (before : List Item) (i j : Item) (later : List Item) : Type 0 where
-  pub same-sets : run c (before ++ i ∷ j ∷ later) .sets ≡ run c (before ++ j ∷ i ∷ later) .sets
+  pub same-card : run c (before ++ i ∷ j ∷ later) ≡ run c (before ++ j ∷ i ∷ later)
   pub one-way :
       trace c (before ++ i ∷ j ∷ later)
       ≡ trace c before ++ answer (run c before) i ∷ answer (run c before) j ∷ trace (run c (before ++ i ∷ j ∷ [])) later
   pub other-way :
       trace c (before ++ j ∷ i ∷ later)
       ≡ trace c before ++ answer (run c before) j ∷ answer (run c before) i ∷ trace (run c (before ++ i ∷ j ∷ [])) later
+  pub same-notices : notices c (before ++ i ∷ j ∷ later) ≡ notices c (before ++ j ∷ i ∷ later)
 
 abbrev pub SwapWithin : Type 0
 SwapWithin =
-    (c : Card) (before : List Item) (i j : Item) (later : List Item) (a b : ℕ) → names a i ≡ true → names b j ≡ true → (a ≡ b → ⊥)
-    → SwappedWithin c before i j later
+    (c : Card) (before : List Item) (i j : Item) (later : List Item) (a b : ℕ) → legalDesk (c .desk) ≡ true → names a i ≡ true
+    → names b j ≡ true → (a ≡ b → ⊥) → SwappedWithin c before i j later
 
 -- ==== demand 2: "What Set Features stores, Get Features hands back."
 
@@ -287,7 +310,7 @@ configures id (command bytes given room) = stores13 (kindOf (commandIn bytes)) &
 -- no such item of a history is carried out
 abbrev pub noneConfigures : Card → ℕ → List Item → Bool
 noneConfigures c id [] = true
-noneConfigures c id (i ∷ is) = not (configures id i && eqb (refusalOf c i) 0) && noneConfigures (step c i .card) id is
+noneConfigures c id (i ∷ is) = not (configures id i && carriedOut (answer c i .status)) && noneConfigures (step c i .card) id is
 
 -- "Get returns enable with the 512 bytes": those of the last Set Features 13h of the set that was carried out, whatever other items
 -- came between, refused ones too. From data in to data out, byte by byte (`handedBack` of crates/pages/specs/Features.antt): the
@@ -340,6 +363,15 @@ abbrev pub traceWords : List ℕ → List Item → List Answer
 traceWords ws [] = []
 traceWords ws (i ∷ is) = stepWords ws i .answer ∷ traceWords (stepWords ws i .table) is
 
+-- the notices, one for each item
+abbrev pub told : Card → List Item → List Notice
+told c [] = []
+told c (i ∷ is) = step c i .notice ∷ told (step c i .card) is
+
+abbrev pub toldWords : List ℕ → List Item → List Notice
+toldWords ws [] = []
+toldWords ws (i ∷ is) = stepWords ws i .notice ∷ toldWords (stepWords ws i .table) is
+
 -- a table of words stays one, where the data in of its items is bytes
 abbrev pub WordsStay : Type 0
 WordsStay = (ws : List ℕ) (i : Item) → legalTable ws ≡ true → AllWords ws → GivenBytes i → AllWords (stepWords ws i .table)
@@ -353,11 +385,15 @@ pub record RanWords (ws : List ℕ) (items : List Item) : Type 0 where
 abbrev pub WordsRun : Type 0
 WordsRun = (ws : List ℕ) (items : List Item) → legalTable ws ≡ true → RanWords ws items
 
--- and the answers are the card's
+-- and the answers are the card's, and so are the notices
 abbrev pub WordsTrace : Type 0
 WordsTrace = (ws : List ℕ) (items : List Item) → legalTable ws ≡ true → traceWords ws items ≡ trace (cardOf ws) items
 
--- So on the words too, "two neighbouring items that name different sets may change places": not one word changes with them.
+abbrev pub WordsNotices : Type 0
+WordsNotices = (ws : List ℕ) (items : List Item) → legalTable ws ≡ true → toldWords ws items ≡ told (cardOf ws) items
+
+-- So on the words too, "two neighbouring items that name different sets may change places": not one word changes with them. The notices
+-- before and after the two are the same, and those of the two, in their order.
 pub record SwappedWords (ws : List ℕ) (before : List Item) (i j : Item) (later : List Item) : Type 0 where
   pub same-words : runWords ws (before ++ i ∷ j ∷ later) ≡ runWords ws (before ++ j ∷ i ∷ later)
   pub one-way :
@@ -368,6 +404,17 @@ pub record SwappedWords (ws : List ℕ) (before : List Item) (i j : Item) (later
       traceWords ws (before ++ j ∷ i ∷ later)
       ≡ traceWords ws before ++ stepWords (runWords ws before) j .answer ∷ stepWords (runWords ws before) i .answer
       ∷ traceWords (runWords ws (before ++ i ∷ j ∷ [])) later
+  pub told-one-way :
+      toldWords ws (before ++ i ∷ j ∷ later)
+      ≡ toldWords ws before ++ stepWords (runWords ws before) i .notice ∷ stepWords (stepWords (runWords ws before) i .table) j .notice
+      ∷ toldWords (runWords ws (before ++ i ∷ j ∷ [])) later
+  pub told-other-way :
+      toldWords ws (before ++ j ∷ i ∷ later)
+      ≡ toldWords ws before ++ stepWords (runWords ws before) j .notice ∷ stepWords (stepWords (runWords ws before) j .table) i .notice
+      ∷ toldWords (runWords ws (before ++ i ∷ j ∷ [])) later
+  pub same-notices :
+      toldOf (stepWords (runWords ws before) i .notice) ++ toldOf (stepWords (stepWords (runWords ws before) i .table) j .notice)
+      ≡ toldOf (stepWords (runWords ws before) j .notice) ++ toldOf (stepWords (stepWords (runWords ws before) j .table) i .notice)
 
 abbrev pub WordsSwap : Type 0
 WordsSwap =

@@ -15,6 +15,8 @@ use Rattle.record.specs.declared.Record.{Record}
 use Rattle.record.specs.Parts.{configOf, spends, nothingSpent, recovers, stateOf}
 use Rattle.record.specs.Event.{eventsOf, noEvents, bitsOf}
 use Rattle.replies.specs.Answers.{Answer}
+use Rattle.desk.specs.Desk.{newDesk}
+use Rattle.table.specs.Card.{cardWith}
 use Rattle.steps.specs.Items.{Card, Item, reads, excursion, tick, command}
 use Rattle.steps.specs.Card.{Outcome, step}
 use Rattle.steps.specs.Order.{seven, Each}
@@ -29,12 +31,12 @@ warned = configOf (eventsOf true false false true false) 10 0 0
 abbrev pub silent : Config
 silent = configOf noEvents 0 0 0
 
--- set 7 alone in a window, with nothing spent in D, n ms of N time, and no event
+-- set 7 alone in a window, with nothing spent in D, n ms of N time, and no event; no request waits
 abbrev pub cardIn : Window → Config → ℕ → Card
 cardIn w c n =
-    record {
-      sets = record { attributes = seven; state = stateOf w c nothingSpent (recovers n); notes = record { events = noEvents; listed = false } } ∷ [];
-    }
+    cardWith
+    (record { attributes = seven; state = stateOf w c nothingSpent (recovers n); notes = record { events = noEvents; listed = false } } ∷ [])
+    newDesk
 
 abbrev pub inD : Card
 inD = cardIn D warned 0

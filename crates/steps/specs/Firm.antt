@@ -12,15 +12,15 @@ use Rattle.steps.specs.SetUp.{SetUp}
 abbrev pub OneSetUp : Type 0
 OneSetUp = (bytes ws v w : List ℕ) (s t : ℕ) → SetUp bytes ws v s → SetUp bytes ws w t → (v ≡ w) × (s ≡ t)
 
--- every item: the words, the reply and every byte of the answer buffer
+-- every item: the words, the reply with the notice beside it, and every byte of the answer buffer
 abbrev pub OneAnswer : Type 0
 OneAnswer =
     (ws : List ℕ) (i : Item) (before : List ℕ) (r q : Reply) (v w x y : List ℕ) → Answered ws i before r v x → Answered ws i before q w y
     → (v ≡ w) × (r ≡ q) × (x ≡ y)
 
--- commands that hand back the written part: the words, status, dword 0 and the part. "exceptions are listed in docs/": the bytes
+-- commands that hand back the written part: the words, status, dword 0, the notice and the part. "exceptions are listed in docs/": the bytes
 -- after the part (docs/PROMISES.md)
 abbrev pub OneHanded : Type 0
 OneHanded =
-    (ws : List ℕ) (i : Item) (room : ℕ) (v w : List ℕ) (s t d e : ℕ) (p q : List ℕ) → Handed ws i room v s d p → Handed ws i room w t e q
-    → (v ≡ w) × (s ≡ t) × (d ≡ e) × (p ≡ q)
+    (ws : List ℕ) (i : Item) (room : ℕ) (v w : List ℕ) (s t d e m n x y : ℕ) (p q : List ℕ) → Handed ws i room v s d m x p
+    → Handed ws i room w t e n y q → (v ≡ w) × (s ≡ t) × (d ≡ e) × (m ≡ n) × (x ≡ y) × (p ≡ q)

@@ -10,6 +10,7 @@ use Rattle.replies.specs.Status.{Line}
 use Rattle.rules.specs.declared.Media.{Media}
 use Rattle.rules.specs.declared.Media.the-variants.{Reads, Writes, Excursion}
 pub use Rattle.table.specs.Card.{Card}
+use Rattle.desk.specs.Desk.{Desk}
 use Rattle.replies.specs.Answers.{Answer}
 
 -- what may be handed in: media events; ticks, each with the length of its answer buffer; and commands, each with its data in and the
@@ -54,9 +55,11 @@ pub record All : Type 0 where
   pub rule : Attributes → State → Effect
   pub part : Record → List ℕ
 
--- An item that names no set and changes none: its refusals, and an answer made from the card.
+-- An item that names no set and changes none: its refusals; what it does to the desk, if it is carried out; and an answer made from the
+-- card before it.
 pub record View : Type 0 where
   pub early : Card → List Line
+  pub desk : Desk → Desk
   pub done : Card → Answer
 
 pub data Meaning : Type 0 where

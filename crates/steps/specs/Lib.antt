@@ -11,4 +11,5 @@ pub mod PastTheTable
 pub mod Firm
 pub mod IdleBuilds
 pub mod Demands
+pub mod Notices
 pub mod Holders

@@ -6,6 +6,8 @@ use lib.ListN.{replicate}
 use Rattle.octets.specs.Octets.{bytesOf}
 use Rattle.record.specs.declared.Attributes.{Attributes}
 use Rattle.replies.specs.Numbers.{badTable, invalidField, notSaveable}
+use Rattle.desk.specs.Desk.{newDesk}
+use Rattle.table.specs.Card.{cardWith}
 use Rattle.steps.specs.Items.{Card, Item, command}
 use Rattle.steps.specs.Card.{answer}
 use Rattle.steps.specs.Words.{stepWords}
@@ -30,7 +32,7 @@ seven =
 
 -- a card with that set, off
 abbrev pub card : Card
-card = record { sets = newRecord seven ∷ [] }
+card = cardWith (newRecord seven ∷ []) newDesk
 
 -- Set Features: opcode 09h in byte 0, then from byte 40 on CDW10 and CDW11; no data, no answer buffer
 abbrev setFeatures : ℕ → ℕ → Item

@@ -36,7 +36,7 @@ SetUpNotWritten = (bytes ws : List ℕ) → UnwrittenNew bytes ws
 
 -- a result, and words past it
 abbrev pub beside : Result → List ℕ → Result
-beside r more = record { table = r .table ++ more; answer = r .answer }
+beside r more = record { table = r .table ++ more; answer = r .answer; notice = r .notice }
 
 -- any item, where the words have room for as many sets as the header says. (Where they have not, the table is refused: `step-unsized`
 -- of proofs/PastWords.antt.)

@@ -11,12 +11,12 @@ use Rattle.record.specs.declared.Attributes.{Attributes}
 use Rattle.record.specs.declared.State.{State}
 use Rattle.record.specs.declared.Record.{Record}
 use Rattle.record.specs.Legal.{dayMs}
-use Rattle.replies.specs.Numbers.{success, badTable, invalidField, tooEarly, unknownSet, tickTooLong}
+use Rattle.replies.specs.Numbers.{success, requestWaits, badTable, invalidField, tooEarly, unknownSet, tickTooLong}
 use Rattle.replies.specs.Status.{Line, line, firstOf}
-use Rattle.table.specs.Table.{recordsOf, legalTable}
+use Rattle.table.specs.Table.{recordsOf, deskAt, legalTable}
 use Rattle.commands.specs.Commands.{commandIn}
 use Rattle.commands.specs.Shapes.{kindOf, isNamed, namedBy}
-use Rattle.commands.specs.StatusTable.{lengthRow, opcodeRow, choiceRow, pageRow, saveRow, partRow, unknownNumber, windowWrong, shortLine, selectsEarly}
+use Rattle.commands.specs.StatusTable.{lengthRow, opcodeRow, choiceRow, pageRow, saveRow, partRow, unknownNumber, windowWrong, shortLine, selectsEarly, requestLine}
 use Rattle.octets.specs.Lists.{first}
 use Rattle.steps.specs.Card.{has}
 
@@ -42,7 +42,8 @@ tableRow ws = line (not (legalTable ws)) badTable
 --   "log page not listed", "Set Features with Save",
 --   "Select not 0; offset not a multiple of 4 or greater than page size; over 1,024 dwords",
 --   "set not in the table (commands)", "14h while off; window not 1 or 2 (Set)",
---   "data in or answer buffer shorter than needed", "select D from N too early"
+--   "data in or answer buffer shorter than needed", "select D from N too early";
+-- and 02's: "a fifth gets 0105h"
 abbrev pub commandRows : List ℕ → List ℕ → List ℕ → ℕ → List Line
 commandRows ws bytes given room =
     let c = commandIn bytes in
@@ -59,6 +60,7 @@ commandRows ws bytes given room =
     ∷ line (ofSet (λ a s. windowWrong k c s) set) invalidField
     ∷ shortLine k c (length given) room
     ∷ line (ofSet (selectsEarly k c) set) tooEarly
+    ∷ requestLine k (length (deskAt ws .waiting))
     ∷ []
 
 -- "Events: bad table 07C3h; unknown set 07C0h"
@@ -69,9 +71,9 @@ eventRows ws id = tableRow ws ∷ line (not (isThere (setIn ws id))) unknownSet 
 abbrev pub tickRows : List ℕ → ℕ → List Line
 tickRows ws t = tableRow ws ∷ line (ltb dayMs t) tickTooLong ∷ []
 
--- The numbers that answer an item which was carried out, and so no refusal has: success alone.
+-- The numbers that answer an item which was carried out, and so no refusal has: success, and 02's "07C8h (waiting, no refusal)".
 abbrev pub carriedNumbers : List ℕ
-carriedNumbers = success ∷ []
+carriedNumbers = success ∷ requestWaits ∷ []
 
 abbrev pub isOneOf : ℕ → List ℕ → Bool
 isOneOf n [] = false

@@ -16,11 +16,13 @@ use Rattle.record.specs.Event.{noEvents}
 use Rattle.record.specs.Legal.{inRange}
 use Rattle.replies.specs.Numbers.{tooShort, badSetUp}
 use Rattle.replies.specs.Status.{Line, line, firstOf}
-use Rattle.replies.specs.Answers.{granted, refused}
-use Rattle.table.specs.Card.{Card}
+use Rattle.replies.specs.declared.Notice.the-variants.{Unsent}
+use Rattle.replies.specs.Answers.{granted}
+use Rattle.desk.specs.Desk.{newDesk}
+use Rattle.table.specs.Card.{Card, cardWith}
 use Rattle.table.specs.Table.{rowStart, legalSets, written, maxSets}
 use Rattle.pages.specs.Bodies.{bodySize, attributesIn}
-use Rattle.steps.specs.Words.{Result}
+use Rattle.steps.specs.Words.{Result, unchanged}
 
 -- "Set-up starts all off and zero."
 abbrev pub newState : State
@@ -66,8 +68,9 @@ setUpLines bytes words =
 unfoldable pub setUpStatus : List ℕ → ℕ → ℕ
 setUpStatus bytes words = firstOf (setUpLines bytes words)
 
+-- 02: opcode 0Ch and FID 0Bh "start off and empty"
 abbrev pub newCard : List ℕ → Card
-newCard bytes = record { sets = newSets bytes }
+newCard bytes = cardWith (newSets bytes) newDesk
 
 -- the words past the new card are as they were
 abbrev pub newTable : List ℕ → List ℕ → List ℕ
@@ -77,8 +80,8 @@ newTable bytes ws = written ws (newCard bytes)
 unfoldable pub setUp : List ℕ → List ℕ → Result
 setUp bytes ws =
     if eqb (setUpStatus bytes (length ws)) 0
-    then record { table = newTable bytes ws; answer = granted 0 [] }
-    else record { table = ws; answer = refused (setUpStatus bytes (length ws)) }
+    then record { table = newTable bytes ws; answer = granted 0 []; notice = Unsent }
+    else unchanged ws (setUpStatus bytes (length ws))
 
 -- what set-up promises: the words that it leaves, and the number that it answers
 pub record SetUp (bytes ws after : List ℕ) (number : ℕ) : Type 0 where

@@ -5,6 +5,7 @@ use mathlib.Core.List.{List, [], _∷_}
 use mathlib.Core.Logic.{inl}
 use Prim.Native.Nat.{ℕ, suc, _+_, _≤_, _<_}
 use native.Mathlib.Omega.{arith}
+use lib.Dec.{eqb}
 use lib.ListN.{length, getD}
 use lib.Seq.{sets, length-sets}
 use Rattle.octets.proofs.Runs.{sets-comm, sets-self, sets-over, part-other, part-same}
@@ -47,6 +48,10 @@ module _ (ws : List ℕ) (t : DeskThere ws) where
   pub count-waiting : getD (deskPart ws) 3 0 ≡ length (deskAt ws .waiting)
   unfolding deskAt
   count-waiting = count-at (deskPart ws) (desk-words ws t)
+
+  pub on-desk : eqb (getD (deskPart ws) 0 0) 1 ≡ deskAt ws .on
+  unfolding deskAt
+  on-desk = refl
 
   module _ (a : List ℕ) (ea : a ≡ deskPart ws) (s : Settled) (after : List ℕ) (h : after ≡ sets ws deskStart (s .words)) where
     pub settled-tells : (new : Bool) → s ≡ settledWords new a → Tells ws (settle new (deskAt ws)) after (s .notice)

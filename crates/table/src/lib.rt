@@ -110,6 +110,21 @@ fn put_desk(table: &mut [u64], a: [u64; DESK])
     octets::copy_words(table, DESK_START, &a);
 }
 
+// How many requests wait, and whether notices are on.
+pub fn waiting_at(table: &[u64]) -> u64
+    requires { ⌜ DeskThere (now table) ⌝ }
+    ensures { λ r. ⌜ r ≡ length (deskAt (now (table .entry)) .waiting) ⌝ }
+{
+    desk::waiting(desk_of(table))
+}
+
+pub fn on_at(table: &[u64]) -> bool
+    requires { ⌜ DeskThere (now table) ⌝ }
+    ensures { λ r. ⌜ r ≡ deskAt (now (table .entry)) .on ⌝ }
+{
+    desk::is_on(desk_of(table))
+}
+
 // ---- the end of an item: what it does to the desk, and the notice that goes beside its answer
 
 // `new`: it has listed a set that was not listed. Where it has not, a legal desk stays as it is.

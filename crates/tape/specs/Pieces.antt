@@ -15,7 +15,7 @@ use Rattle.pages.specs.Bodies.{bodySize}
 use Rattle.commands.specs.Commands.{commandSize}
 use Rattle.steps.specs.Words.{Result}
 use Rattle.steps.specs.SetUp.{withBody, firstBodies, setUp}
-use Rattle.tape.specs.Text.{statusDigits, dwordDigits, setsLine, endLine, badLine}
+use Rattle.tape.specs.Text.{statusDigits, dwordDigits, noticeRoom, setsLine, endLine, badLine}
 use Rattle.tape.specs.Tape.{attributesSize, answerSize, wordsAfter, lineFor, nextSet, nextItem}
 use Rattle.tape.specs.Printout.{firstItem, itemLength, setLength, printoutOn}
 use Rattle.tape.specs.declared.Next.{Next}
@@ -94,9 +94,9 @@ turnAt Ended n words bodies left last = turn Ended n 0 false words bodies []
 -- ---- a call: turns one after another, each line after the one before, until the tape has ended, more bytes are wanted, or the
 -- longest line might have no room
 
--- the longest line: status, dword 0, as much data as the answer buffer holds, and what stands between and after them
+-- the longest line: status, dword 0, as much data as the answer buffer holds, what stands between and after them, and a notice's line
 abbrev pub lineRoom : ℕ
-lineRoom = statusDigits + 1 + dwordDigits + 1 + 2 * answerSize + 1
+lineRoom = statusDigits + 1 + dwordDigits + 1 + 2 * answerSize + 1 + noticeRoom
 
 -- a call stops after so many turns too, so that it ends whatever it is lent
 abbrev pub mostTurns : ℕ

@@ -1,7 +1,7 @@
 -- 01, "Replay file and its printout": the file. "One byte of kind, then a body".
 use mathlib.Core.Path.{_≡_}
 use mathlib.Core.Bool.{Bool, _&&_}
-use mathlib.Core.List.{List, [], _∷_}
+use mathlib.Core.List.{List, [], _∷_, _++_}
 use mathlib.Core.Option.{Option, none, some}
 use Prim.Native.Nat.{ℕ, _+_, _≤_}
 use lib.Dec.{eqb, ltb, leb}
@@ -14,7 +14,7 @@ use Rattle.pages.specs.Bodies.{bodySize}
 use Rattle.commands.specs.Commands.{commandSize}
 use Rattle.steps.specs.Items.{Item, reads, writes, excursion, tick, command}
 use Rattle.steps.specs.Words.{stepWords}
-use Rattle.tape.specs.Text.{itemLine}
+use Rattle.tape.specs.Text.{itemLine, noticeLine}
 use Rattle.tape.specs.declared.Next.{Next}
 use Rattle.tape.specs.declared.Next.the-variants.{Whole, Short, Bad, Over}
 
@@ -71,14 +71,14 @@ isItem kind body = ltb 0 (itemSize kind) && eqb (length body) (itemSize kind)
 abbrev pub itemIn : ℕ → List ℕ → Option Item
 itemIn kind body = if isItem kind body then some (itemBy kind body) else none
 
--- what an item leaves of the words, and the line that it gets; nothing where it is no item
+-- what an item leaves of the words, and its line, with that of the notice beside its answer; nothing where it is no item
 abbrev pub wordsAfter : List ℕ → Option Item → List ℕ
 wordsAfter ws none = ws
 wordsAfter ws (some i) = stepWords ws i .table
 
 abbrev pub lineFor : List ℕ → Option Item → List ℕ
 lineFor ws none = []
-lineFor ws (some i) = itemLine (stepWords ws i .answer)
+lineFor ws (some i) = itemLine (stepWords ws i .answer) ++ noticeLine (stepWords ws i .notice)
 
 -- what playing an item promises: every word of the table, every byte of the line, and the line's length, for which there is room
 pub record Played (ws : List ℕ) (i : Option Item) (line₀ : List ℕ) (n : ℕ) (words line : List ℕ) : Type 0 where

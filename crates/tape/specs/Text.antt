@@ -9,7 +9,9 @@ use lib.Dec.{ltb}
 use lib.ListN.{length}
 use lib.Seq.{sets}
 use Rattle.octets.specs.Choice.{if_then_else_}
-use Rattle.replies.specs.Answers.{Answer}
+use Rattle.replies.specs.declared.Notice.{Notice}
+use Rattle.replies.specs.declared.Notice.the-variants.{Unsent, To}
+use Rattle.replies.specs.Answers.{Answer, noticeDword}
 
 -- a text's signs, by their numbers
 abbrev pub signs : String → List ℕ
@@ -87,6 +89,18 @@ dataText (b ∷ bs) = (space ∷ []) ++ dataHex (b ∷ bs)
 
 abbrev pub itemLine : Answer → List ℕ
 itemLine a = hexOf statusDigits (a .status) ++ (space ∷ []) ++ hexOf dwordDigits (a .dword) ++ dataText (a .bytes) ++ newline ∷ []
+
+-- 02: "replay adds a line: identifier, dword 0"
+abbrev pub toldLine : ℕ → List ℕ
+toldLine id = hexOf statusDigits id ++ (space ∷ []) ++ hexOf dwordDigits noticeDword ++ newline ∷ []
+
+abbrev pub noticeLine : Notice → List ℕ
+noticeLine Unsent = []
+noticeLine (To id) = toldLine id
+
+-- room for it
+abbrev pub noticeRoom : ℕ
+noticeRoom = statusDigits + 1 + dwordDigits + 1
 
 -- text put into bytes at a place: the bytes afterwards, and the place after it, which lies within them
 pub record Put (before : List ℕ) (at : ℕ) (text after : List ℕ) (next : ℕ) : Type 0 where

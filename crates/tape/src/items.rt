@@ -12,6 +12,7 @@ ghost use Rattle.tape.specs.Tape.{itemSize, answerSize, mediaItem, itemB
 use crate::Next;
 use crate::lines::LINE;
 use crate::lines::item_line;
+use crate::lines::notice_line;
 use card::commanded::command_part;
 use card::media::event;
 use card::media::ticks;
@@ -19,6 +20,7 @@ use octets::numbers::short;
 use octets::numbers::word;
 use pages::bodies::BODY;
 use record::SetId;
+use replies::notice_of;
 use rules::Media;
 
 const KINDS: usize = 7;
@@ -45,7 +47,9 @@ fn play_event(table: &mut [u64], line: &mut [u8; LINE], set: u16, m: Media) -> u
     ensures { λ r. ⌜ Played (now (table .entry)) (some (itemOf set m)) (now (line .entry)) r (now (table .exit)) (now (line .exit)) ⌝ }
 {
     let r = event(table, SetId(set), m);
-    item_line(line, r.status, r.dword, b"")
+    let notice = r.notice;
+    let end = item_line(line, r.status, r.dword, b"");
+    notice_line(line, end, notice)
 }
 
 fn play_tick(table: &mut [u64], line: &mut [u8; LINE], t: u32) -> usize
@@ -54,7 +58,9 @@ fn play_tick(table: &mut [u64], line: &mut [u8; LINE], t: u32) -> usize
     let mut answer = [0u8; ANSWER_SIZE];
     let r = ticks(table, t, &mut answer);
     let n = r.len;
-    item_line(line, r.status, r.dword, &answer[0..n])
+    let notice = r.notice;
+    let end = item_line(line, r.status, r.dword, &answer[0..n]);
+    notice_line(line, end, notice)
 }
 
 fn play_command(table: &mut [u64], line: &mut [u8; LINE], bytes: &[u8], given: &[u8]) -> usize
@@ -63,8 +69,20 @@ fn play_command(table: &mut [u64], line: &mut [u8; LINE], bytes: &[u8], given: &
     let mut answer = [0u8; ANSWER_SIZE];
     let mut status = 0;
     let mut dword = 0;
-    let part = command_part(table, bytes, given, &mut answer, &mut status, &mut dword);
-    item_line(line, status, dword, part)
+    let mut told = 0;
+    let mut to = 0;
+    let part = command_part(
+        table,
+        bytes,
+        given,
+        &mut answer,
+        &mut status,
+        &mut dword,
+        &mut told,
+        &mut to,
+    );
+    let end = item_line(line, status, dword, part);
+    notice_line(line, end, notice_of(told, to))
 }
 
 fn play_media(table: &mut [u64], line: &mut [u8; LINE], kind: u8, body: &[u8]) -> usize

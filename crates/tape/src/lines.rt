@@ -1,14 +1,16 @@
 // The lines of a printout, each put at the start of an array that has room for the longest.
-ghost use Prim.Native.Nat.{_≤_};
+ghost use Prim.Native.Nat.{_+_, _≤_};
 ghost use lib.ListN.{length};
-ghost use Rattle.tape.specs.Text.{setsLine, endLine, badLine, itemLine, Put};
+ghost use Rattle.tape.specs.Text.{setsLine, endLine, badLine, itemLine, toldLine, noticeLine, noticeRoom, Put};
 use crate::text::put_data;
 use crate::text::put_decimal;
 use crate::text::put_hex;
 use crate::text::put_text;
+use replies::NOTICE;
+use replies::Notice;
 
-// The line of an item with 4,096 bytes of data: 4 + 1 + 8 + 1 + 8,192 + 1.
-pub const LINE: usize = 8207;
+// The line of an item with 4,096 bytes of data, 4 + 1 + 8 + 1 + 8,192 + 1, and after it that of a notice, 4 + 1 + 8 + 1.
+pub const LINE: usize = 8221;
 
 pub fn sets_line(line: &mut [u8; LINE], n: u64, status: u16) -> usize
     ensures { λ r. ⌜ Put (now (line .entry)) 0 (setsLine n status) (now (line .exit)) r ⌝ }
@@ -46,4 +48,25 @@ pub(crate) fn item_line(line: &mut [u8; LINE], status: u16, dword: u32, bytes: &
     let c = put_hex(line, b, 8, dword as u64);
     let d = put_data(line, c, bytes);
     put_text(line, d, b"\n")
+}
+
+// The line of a notice, after the item's own: the request's identifier and its dword 0. No notice, no line.
+pub(crate) fn notice_line(line: &mut [u8; LINE], at: usize, notice: Notice) -> usize
+    requires { ⌜ at + noticeRoom ≤ length (now line) ⌝ }
+    ensures { λ r. ⌜ Put (now (line .entry)) at (noticeLine notice) (now (line .exit)) r ⌝ }
+{
+    match notice {
+        Notice::Unsent => at,
+        Notice::To(id) => told_line(line, at, id),
+    }
+}
+
+fn told_line(line: &mut [u8; LINE], at: usize, id: u16) -> usize
+    requires { ⌜ at + noticeRoom ≤ length (now line) ⌝ }
+    ensures { λ r. ⌜ Put (now (line .entry)) at (toldLine id) (now (line .exit)) r ⌝ }
+{
+    let a = put_hex(line, at, 4, id as u64);
+    let b = put_text(line, a, b" ");
+    let c = put_hex(line, b, 8, NOTICE as u64);
+    put_text(line, c, b"\n")
 }
