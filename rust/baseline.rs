@@ -2,15 +2,17 @@
 //! no allocation. The measure for speed.
 
 use model::commands::{
-    COMMAND_BYTES, CONFIGURATION, GET_FEATURES, GET_LOG_PAGE, IDENTIFY, LIST_PAGE, SET_FEATURES, SET_LIST, SET_PAGE, WINDOW,
+    ASYNCHRONOUS_EVENT_REQUEST, COMMAND_BYTES, CONFIGURATION, EVENT_NOTICES, GET_FEATURES, GET_LOG_PAGE, IDENTIFY, LIST_PAGE,
+    SET_FEATURES, SET_LIST, SET_PAGE, WINDOW,
 };
 use model::layout::{BODY_BYTES, LAYOUT_NUMBER, MAX_SETS};
+use model::notices::NOTICE_DWORD0;
 use model::status;
 use trials::entries::Entries;
 
 pub const ENTRIES: Entries = Entries { set_up, command, reads, writes, excursion, tick };
 
-const HEADER_BYTES: usize = 16;
+const HEADER_BYTES: usize = 80;
 const ROW_BYTES: usize = 192;
 const CONFIGURATION_BYTES: usize = 512;
 const SET_PAGE_BYTES: usize = 512;
@@ -24,6 +26,16 @@ const DAY: u64 = 86_400_000;
 const EVENT_MASK: u64 = 0xC007;
 const EXCEEDED: u64 = 1 << 14;
 const EXCURSION: u64 = 1 << 15;
+
+// Words of the header.
+const LAYOUT: usize = 0;
+const SETS: usize = 1;
+const ON: usize = 2;
+const MASKED: usize = 3;
+const FLAG: usize = 4;
+const WAITING: usize = 5;
+const REQUESTS: usize = 6;
+const MAX_WAITING: usize = 4;
 
 // Words of a row.
 const IDENTIFIER: usize = 0;
@@ -50,10 +62,27 @@ const OFF: u64 = 0;
 const D: u64 = 1;
 const N: u64 = 2;
 
+type Header = [u8; HEADER_BYTES];
 type Row = [u8; ROW_BYTES];
 
-/// Dword 0 and the length of the data, or a status.
-type Outcome = Result<(u32, usize), u16>;
+/// The request that a call completes.
+type Notice = Option<u16>;
+
+/// What a command that is carried out answers.
+struct Answer {
+    status: u16,
+    dword0: u32,
+    length: usize,
+    notice: Notice,
+}
+
+/// That, or the number that it is refused with.
+type Outcome = Result<Answer, u16>;
+
+/// A success with dword 0, data of this length, and perhaps a notice.
+fn success(dword0: u32, length: usize, notice: Notice) -> Outcome {
+    Ok(Answer { status: status::SUCCESS, dword0, length, notice })
+}
 
 #[inline(always)]
 fn u16_at(bytes: &[u8], at: usize) -> u16 {
@@ -70,14 +99,15 @@ fn u64_at(bytes: &[u8], at: usize) -> u64 {
     u64::from_le_bytes(bytes[at..at + 8].try_into().unwrap())
 }
 
+/// A word of the header or of a row.
 #[inline(always)]
-fn get(row: &Row, word: usize) -> u64 {
-    u64_at(row, 8 * word)
+fn get<const N: usize>(words: &[u8; N], word: usize) -> u64 {
+    u64_at(words, 8 * word)
 }
 
 #[inline(always)]
-fn put(row: &mut Row, word: usize, value: u64) {
-    row[8 * word..8 * word + 8].copy_from_slice(&value.to_le_bytes());
+fn put<const N: usize>(words: &mut [u8; N], word: usize, value: u64) {
+    words[8 * word..8 * word + 8].copy_from_slice(&value.to_le_bytes());
 }
 
 #[inline(always)]
@@ -90,17 +120,18 @@ fn rows_mut(rows: &mut [u8]) -> impl Iterator<Item = &mut Row> {
     rows.chunks_exact_mut(ROW_BYTES).map(|row| row.try_into().unwrap())
 }
 
-/// The rows of a legal table.
-fn legal_rows(table: &mut [u8]) -> Result<&mut [u8], u16> {
+/// The header and the rows of a legal table.
+fn legal_parts(table: &mut [u8]) -> Result<(&mut Header, &mut [u8]), u16> {
     if table.len() < HEADER_BYTES {
         return Err(status::BAD_TABLE);
     }
-    let sets = u64_at(table, 8);
-    if u64_at(table, 0) != LAYOUT_NUMBER || sets == 0 || sets > MAX_SETS as u64 {
+    let (header, rest) = table.split_at_mut(HEADER_BYTES);
+    let header: &mut Header = header.try_into().unwrap();
+    let sets = get(header, SETS);
+    if get(header, LAYOUT) != LAYOUT_NUMBER || sets == 0 || sets > MAX_SETS as u64 || !are_notices_legal(header) {
         return Err(status::BAD_TABLE);
     }
-    let rows_end = HEADER_BYTES + ROW_BYTES * sets as usize;
-    let all = table.get_mut(HEADER_BYTES..rows_end).ok_or(status::BAD_TABLE)?;
+    let all = rest.get_mut(..ROW_BYTES * sets as usize).ok_or(status::BAD_TABLE)?;
     let mut previous = 0;
     for row in rows(all) {
         let identifier = get(row, IDENTIFIER);
@@ -109,7 +140,41 @@ fn legal_rows(table: &mut [u8]) -> Result<&mut [u8], u16> {
         }
         previous = identifier;
     }
-    Ok(all)
+    Ok((header, all))
+}
+
+#[inline(always)]
+fn are_notices_legal(header: &Header) -> bool {
+    let waiting = get(header, WAITING);
+    let request_max = |place: usize| if (place as u64) < waiting { 0xFFFF } else { 0 };
+    get(header, ON) | get(header, MASKED) | get(header, FLAG) <= 1
+        && waiting <= MAX_WAITING as u64
+        && (0..MAX_WAITING).all(|place| get(header, REQUESTS + place) <= request_max(place))
+        && !(get(header, FLAG) == 1 && can_send(header))
+}
+
+#[inline(always)]
+fn can_send(header: &Header) -> bool {
+    get(header, ON) == 1 && get(header, MASKED) == 0 && get(header, WAITING) > 0
+}
+
+/// Sends the notice that an item owes, if it owes one, or remembers it.
+#[inline(always)]
+fn settle(header: &mut Header, is_owed: bool) -> Notice {
+    if !is_owed {
+        return None;
+    }
+    if !can_send(header) {
+        put(header, FLAG, 1);
+        return None;
+    }
+    let oldest = get(header, REQUESTS) as u16;
+    header.copy_within(8 * (REQUESTS + 1).., 8 * REQUESTS);
+    put(header, REQUESTS + MAX_WAITING - 1, 0);
+    put(header, WAITING, get(header, WAITING) - 1);
+    put(header, MASKED, 1);
+    put(header, FLAG, 0);
+    Some(oldest)
 }
 
 /// Whether a row is legal; that its identifier is not 0 follows from the order.
@@ -173,9 +238,12 @@ fn set_up(table: &mut [u8], bodies: &[u8]) -> u16 {
         None => return status::TOO_SHORT,
         Some(table) => table,
     };
-    table[..8].copy_from_slice(&LAYOUT_NUMBER.to_le_bytes());
-    table[8..HEADER_BYTES].copy_from_slice(&(sets as u64).to_le_bytes());
-    for (row, body) in rows_mut(&mut table[HEADER_BYTES..]).zip(bodies.chunks_exact(BODY_BYTES)) {
+    let (header, all) = table.split_at_mut(HEADER_BYTES);
+    let header: &mut Header = header.try_into().unwrap();
+    header.fill(0);
+    put(header, LAYOUT, LAYOUT_NUMBER);
+    put(header, SETS, sets as u64);
+    for (row, body) in rows_mut(all).zip(bodies.chunks_exact(BODY_BYTES)) {
         fill_row(row, body.try_into().unwrap());
     }
     status::SUCCESS
@@ -214,76 +282,76 @@ fn writes(table: &mut [u8], set: u16, count: u16, reply: &mut [u8]) -> u16 {
 
 fn excursion(table: &mut [u8], set: u16, reply: &mut [u8]) -> u16 {
     let rule = |row: &mut Row| {
-        if get(row, WINDOW_WORD) == D {
-            enter(row, N);
-            note(row, EXCURSION);
+        if get(row, WINDOW_WORD) != D {
+            return false;
         }
+        enter(row, N);
+        note(row, EXCURSION)
     };
     media_event(table, set, rule, reply)
 }
 
 fn tick(table: &mut [u8], milliseconds: u32, _answer: &mut [u8], reply: &mut [u8]) -> u16 {
-    put_reply(reply, 0, 0);
-    let all = match legal_rows(table) {
-        Err(number) => return number,
-        Ok(all) => all,
-    };
-    let milliseconds = u64::from(milliseconds);
+    told(ticked(table, milliseconds.into()), reply)
+}
+
+fn ticked(table: &mut [u8], milliseconds: u64) -> Outcome {
+    let (header, all) = legal_parts(table)?;
     if milliseconds > DAY {
-        return status::LONG_TICK;
+        return Err(status::LONG_TICK);
     }
+    let mut has_listed = false;
     for row in rows_mut(all) {
         match get(row, WINDOW_WORD) {
-            D => tick_in_d(row, milliseconds),
+            D => has_listed |= tick_in_d(row, milliseconds),
             N => pass_n_time(row, get(row, N_TIME) + milliseconds),
             _ => (),
         }
     }
-    status::SUCCESS
+    success(0, 0, settle(header, has_listed))
+}
+
+/// The rule answers whether it has listed a set that was not listed.
+#[inline(always)]
+fn media_event(table: &mut [u8], set: u16, rule: impl FnOnce(&mut Row) -> bool, reply: &mut [u8]) -> u16 {
+    told(charged(table, set, rule), reply)
 }
 
 #[inline(always)]
-fn media_event(table: &mut [u8], set: u16, rule: impl FnOnce(&mut Row), reply: &mut [u8]) -> u16 {
-    put_reply(reply, 0, 0);
-    match legal_rows(table) {
-        Err(number) => number,
-        Ok(all) => match find(all, set) {
-            None => status::UNKNOWN_SET,
-            Some(row) => {
-                rule(row);
-                status::SUCCESS
-            }
-        },
-    }
+fn charged(table: &mut [u8], set: u16, rule: impl FnOnce(&mut Row) -> bool) -> Outcome {
+    let (header, all) = legal_parts(table)?;
+    let row = find(all, set).ok_or(status::UNKNOWN_SET)?;
+    let has_listed = rule(row);
+    success(0, 0, settle(header, has_listed))
 }
 
 /// Charges reads (0) or writes (1).
 #[inline(always)]
-fn count_in_d(row: &mut Row, quantity: usize, count: u16) {
+fn count_in_d(row: &mut Row, quantity: usize, count: u16) -> bool {
     if get(row, WINDOW_WORD) != D {
-        return;
+        return false;
     }
     let sum = get(row, CHARGES + quantity) + u64::from(count);
     let warning = charge(row, quantity, sum);
     if sum > get(row, READS_TYPICAL + quantity) {
         enter(row, N);
-        note(row, warning | EXCEEDED);
+        note(row, warning | EXCEEDED)
     } else {
-        note(row, warning);
+        note(row, warning)
     }
 }
 
 #[inline(always)]
-fn tick_in_d(row: &mut Row, milliseconds: u64) {
+fn tick_in_d(row: &mut Row, milliseconds: u64) -> bool {
     let sum = get(row, CHARGES + 2) + milliseconds;
     let maximum = get(row, TIME_MAXIMUM);
     let warning = charge(row, 2, sum);
     if sum >= maximum {
         enter(row, N);
         pass_n_time(row, sum - maximum);
-        note(row, warning | EXCEEDED);
+        note(row, warning | EXCEEDED)
     } else {
-        note(row, warning);
+        note(row, warning)
     }
 }
 
@@ -310,62 +378,92 @@ fn enter(row: &mut Row, window: u64) {
     row[8 * CHARGES..8 * EVENTS].fill(0);
 }
 
+/// Writes an item's events, and answers whether they have listed a set that was not listed.
 #[inline(always)]
-fn note(row: &mut Row, events: u64) {
-    if events != 0 {
-        put(row, EVENTS, get(row, EVENTS) | events);
-        put(row, LISTED, get(row, LISTED) | u64::from(events & get(row, ENEV) != 0));
+fn note(row: &mut Row, events: u64) -> bool {
+    if events == 0 {
+        return false;
     }
+    let listed = get(row, LISTED);
+    let lists = u64::from(events & get(row, ENEV) != 0);
+    put(row, EVENTS, get(row, EVENTS) | events);
+    put(row, LISTED, listed | lists);
+    lists > listed
 }
 
 fn command(table: &mut [u8], command: &[u8], data: &[u8], answer: &mut [u8], reply: &mut [u8]) -> u16 {
-    let (number, dword0, length) = match carry_out(table, command, data, answer) {
-        Ok((dword0, length)) => (status::SUCCESS, dword0, length),
-        Err(number) => (number, 0, 0),
-    };
-    put_reply(reply, dword0, length);
-    number
+    told(carry_out(table, command, data, answer), reply)
 }
 
+/// Writes the reply of a call, and answers its status.
 #[inline(always)]
-fn put_reply(reply: &mut [u8], dword0: u32, length: usize) {
+fn told(outcome: Outcome, reply: &mut [u8]) -> u16 {
+    let Answer { status, dword0, length, notice } =
+        outcome.unwrap_or_else(|status| Answer { status, dword0: 0, length: 0, notice: None });
     let mut bytes = [0; 16];
     bytes[0..4].copy_from_slice(&dword0.to_le_bytes());
     bytes[4..8].copy_from_slice(&(length as u32).to_le_bytes());
+    if let Some(identifier) = notice {
+        bytes[8] = 1;
+        bytes[10..12].copy_from_slice(&identifier.to_le_bytes());
+        bytes[12..16].copy_from_slice(&NOTICE_DWORD0.to_le_bytes());
+    }
     if let Some(whole) = reply.get_mut(..16) {
         whole.copy_from_slice(&bytes);
     } else {
         let reach = reply.len();
         reply.copy_from_slice(&bytes[..reach]);
     }
+    status
 }
 
 fn carry_out(table: &mut [u8], command: &[u8], data: &[u8], answer: &mut [u8]) -> Outcome {
-    let all = legal_rows(table)?;
+    let (header, all) = legal_parts(table)?;
     let command: &[u8; COMMAND_BYTES] = command.try_into().map_err(|_| status::BAD_COMMAND)?;
     match command[0] {
-        GET_LOG_PAGE => get_log_page(all, command, answer),
+        GET_LOG_PAGE => get_log_page(header, all, command, answer),
         IDENTIFY => identify(all, command, answer),
-        SET_FEATURES => set_features(all, command, data),
-        GET_FEATURES => get_features(all, command, answer),
+        SET_FEATURES => set_features(header, all, command, data),
+        GET_FEATURES => get_features(header, all, command, answer),
+        ASYNCHRONOUS_EVENT_REQUEST => event_request(header, u16_at(command, 2)),
         _ => Err(status::INVALID_OPCODE),
     }
 }
 
-fn set_features(all: &mut [u8], command: &[u8; COMMAND_BYTES], data: &[u8]) -> Outcome {
+fn event_request(header: &mut Header, identifier: u16) -> Outcome {
+    let waiting = get(header, WAITING);
+    if waiting == MAX_WAITING as u64 {
+        return Err(status::TOO_MANY_REQUESTS);
+    }
+    put(header, REQUESTS + waiting as usize, identifier.into());
+    put(header, WAITING, waiting + 1);
+    let is_owed = get(header, FLAG) == 1;
+    Ok(Answer { status: status::WAITING, dword0: 0, length: 0, notice: settle(header, is_owed) })
+}
+
+fn is_feature(fid: u8) -> bool {
+    fid == CONFIGURATION || fid == WINDOW || fid == EVENT_NOTICES
+}
+
+fn set_features(header: &mut Header, all: &mut [u8], command: &[u8; COMMAND_BYTES], data: &[u8]) -> Outcome {
     let fid = command[40];
-    if fid != CONFIGURATION && fid != WINDOW {
+    if !is_feature(fid) {
         return Err(status::INVALID_FIELD);
     }
     if command[43] & 0x80 != 0 {
         return Err(status::NOT_SAVEABLE);
     }
+    if fid == EVENT_NOTICES {
+        put(header, ON, u64::from(command[45] >> 4 & 1));
+        let is_owed = get(header, FLAG) == 1;
+        return success(0, 0, settle(header, is_owed));
+    }
     let row = find(all, u16_at(command, 44)).ok_or(status::INVALID_FIELD)?;
     if fid == CONFIGURATION {
-        set_configuration(row, command[48] & 1 != 0, data)
-    } else {
-        set_window(row, command[48] & 7)
+        return set_configuration(row, command[48] & 1 != 0, data);
     }
+    let has_listed = set_window(row, command[48] & 7)?;
+    success(0, 0, settle(header, has_listed))
 }
 
 fn set_configuration(row: &mut Row, enable: bool, data: &[u8]) -> Outcome {
@@ -373,41 +471,44 @@ fn set_configuration(row: &mut Row, enable: bool, data: &[u8]) -> Outcome {
     enter(row, if enable { N } else { OFF });
     put(row, ENEV, u64::from(u16_at(data, 0)) & EVENT_MASK);
     row[8 * THRESHOLDS..8 * WINDOW_WORD].copy_from_slice(&data[32..56]);
-    Ok((0, 0))
+    success(0, 0, None)
 }
 
-fn set_window(row: &mut Row, selected: u8) -> Outcome {
+/// Whether entering D has listed the set, or a refusal.
+fn set_window(row: &mut Row, selected: u8) -> Result<bool, u16> {
     let window = get(row, WINDOW_WORD);
     let selected = u64::from(selected);
     if window == OFF || (selected != D && selected != N) {
         return Err(status::INVALID_FIELD);
     }
     if selected == window {
-        return Ok((0, 0));
-    }
-    if selected == N {
+        Ok(false)
+    } else if selected == N {
         enter(row, N);
+        Ok(false)
     } else if get(row, N_TIME) != get(row, MINIMUM_HIGH) {
-        return Err(status::TOO_EARLY);
+        Err(status::TOO_EARLY)
     } else {
-        enter_d(row);
+        Ok(enter_d(row))
     }
-    Ok((0, 0))
 }
 
-fn enter_d(row: &mut Row) {
+fn enter_d(row: &mut Row) -> bool {
     enter(row, D);
     let mut below = 0;
     for quantity in 0..3 {
         below |= u64::from(get(row, READS_TYPICAL + quantity) < get(row, THRESHOLDS + quantity)) << quantity;
     }
-    note(row, below & get(row, ENEV));
+    note(row, below & get(row, ENEV))
 }
 
-fn get_features(all: &mut [u8], command: &[u8; COMMAND_BYTES], answer: &mut [u8]) -> Outcome {
+fn get_features(header: &Header, all: &mut [u8], command: &[u8; COMMAND_BYTES], answer: &mut [u8]) -> Outcome {
     let fid = command[40];
-    if (fid != CONFIGURATION && fid != WINDOW) || command[41] & 7 != 0 {
+    if !is_feature(fid) || command[41] & 7 != 0 {
         return Err(status::INVALID_FIELD);
+    }
+    if fid == EVENT_NOTICES {
+        return success((get(header, ON) as u32) << 12, 0, None);
     }
     let row = find(all, u16_at(command, 44)).ok_or(status::INVALID_FIELD)?;
     let window = get(row, WINDOW_WORD);
@@ -416,15 +517,15 @@ fn get_features(all: &mut [u8], command: &[u8; COMMAND_BYTES], answer: &mut [u8]
         page.fill(0);
         page[0..2].copy_from_slice(&row[8 * ENEV..8 * ENEV + 2]);
         page[32..56].copy_from_slice(&row[8 * THRESHOLDS..8 * WINDOW_WORD]);
-        Ok((u32::from(window != OFF), CONFIGURATION_BYTES))
+        success(u32::from(window != OFF), CONFIGURATION_BYTES, None)
     } else if window == OFF {
         Err(status::INVALID_FIELD)
     } else {
-        Ok((window as u32, 0))
+        success(window as u32, 0, None)
     }
 }
 
-fn get_log_page(all: &mut [u8], command: &[u8; COMMAND_BYTES], answer: &mut [u8]) -> Outcome {
+fn get_log_page(header: &mut Header, all: &mut [u8], command: &[u8; COMMAND_BYTES], answer: &mut [u8]) -> Outcome {
     let page_bytes = match command[40] {
         SET_PAGE => SET_PAGE_BYTES,
         LIST_PAGE => LIST_PAGE_BYTES,
@@ -436,18 +537,23 @@ fn get_log_page(all: &mut [u8], command: &[u8; COMMAND_BYTES], answer: &mut [u8]
         return Err(status::INVALID_FIELD);
     }
     let length = 4 * (count as usize + 1);
+    let retains = command[41] & 0x80 != 0;
     if command[40] == LIST_PAGE {
         let answer = answer.get_mut(..length).ok_or(status::TOO_SHORT)?;
         give(&list_page(all), offset as usize, answer);
-        return Ok((0, length));
+        if !retains {
+            put(header, MASKED, 0);
+            put(header, FLAG, 0);
+        }
+        return success(0, length, None);
     }
     let row = find(all, u16_at(command, 46)).ok_or(status::INVALID_FIELD)?;
     let answer = answer.get_mut(..length).ok_or(status::TOO_SHORT)?;
     give(&set_page(row), offset as usize, answer);
-    if command[41] & 0x80 == 0 {
+    if !retains {
         row[8 * EVENTS..].fill(0);
     }
-    Ok((0, length))
+    success(0, length, None)
 }
 
 /// Fills the answer with a page from an offset on, then zeros.
@@ -508,5 +614,5 @@ fn identify(all: &[u8], command: &[u8; COMMAND_BYTES], answer: &mut [u8]) -> Out
         entry[16..48].copy_from_slice(&row[8 * TOTAL..8 * READS_TYPICAL]);
         head[0] += 1;
     }
-    Ok((0, IDENTIFY_BYTES))
+    success(0, IDENTIFY_BYTES, None)
 }

@@ -6,7 +6,10 @@
 mod baseline;
 mod card_c;
 
-use model::commands::{CONFIGURATION, GET_FEATURES, GET_LOG_PAGE, IDENTIFY, LIST_PAGE, SET_FEATURES, SET_LIST, SET_PAGE, WINDOW};
+use model::commands::{
+    ASYNCHRONOUS_EVENT_REQUEST, CONFIGURATION, EVENT_NOTICES, GET_FEATURES, GET_LOG_PAGE, IDENTIFY, LIST_PAGE, NOTICES_BIT,
+    SET_FEATURES, SET_LIST, SET_PAGE, WINDOW,
+};
 use model::layout::table_bytes;
 use model::set::DAY;
 use model::status;
@@ -29,6 +32,8 @@ enum State {
     Recovered,
     /// In N, with events and listed.
     Listed,
+    /// In D, with notices on and a request that waits: an event completes it.
+    Awaited,
 }
 
 /// The other sets: all as the named one is, or some off, some in D and some in N, so that a branch by the window is not foreseen.
@@ -55,25 +60,30 @@ struct Case {
     timed: Timed,
 }
 
-/// Feature commands name the set in CDW11 15:0, page 0Ah in 31:16; `MIDDLE` there stands for the set in the middle.
+/// Feature commands name the set in CDW11 15:0, page 0Ah in 31:16; `MIDDLE` there stands for the set in the middle. What has none of
+/// its bits stands for itself.
 const MIDDLE: u32 = 0x0001_0001;
 
 const fn command(name: &'static str, state: State, opcode: u8, dwords: [u32; 4]) -> Case {
     Case { name, state, timed: Timed::Command { opcode, dwords } }
 }
 
-const CASES: [Case; 12] = [
+const CASES: [Case; 16] = [
     Case { name: "set-up", state: State::InD, timed: Timed::SetUp },
     command("Set 13h, enable", State::InD, SET_FEATURES, [CONFIGURATION as u32, MIDDLE, 1, 0]),
     command("Get 13h", State::InD, GET_FEATURES, [CONFIGURATION as u32, MIDDLE, 0, 0]),
     command("Set 14h, select D", State::Recovered, SET_FEATURES, [WINDOW as u32, MIDDLE, 1, 0]),
     command("Get 14h", State::InD, GET_FEATURES, [WINDOW as u32, MIDDLE, 0, 0]),
+    command("Set 0Bh, on", State::InD, SET_FEATURES, [EVENT_NOTICES as u32, NOTICES_BIT, 0, 0]),
+    command("Get 0Bh", State::Awaited, GET_FEATURES, [EVENT_NOTICES as u32, 0, 0, 0]),
+    command("request", State::Awaited, ASYNCHRONOUS_EVENT_REQUEST, [0; 4]),
     command("page 0Ah, 512 bytes, clearing", State::Listed, GET_LOG_PAGE, [SET_PAGE as u32 | 127 << 16, MIDDLE & !0xFFFF, 0, 0]),
     command("page 0Bh, 72 bytes", State::Listed, GET_LOG_PAGE, [LIST_PAGE as u32 | 17 << 16, 0, 0, 0]),
     command("Identify", State::InD, IDENTIFY, [SET_LIST as u32, 0, 0, 0]),
     Case { name: "reads", state: State::InD, timed: Timed::Reads },
     Case { name: "writes", state: State::InD, timed: Timed::Writes },
     Case { name: "excursion", state: State::InD, timed: Timed::Excursion },
+    Case { name: "excursion with a notice", state: State::Awaited, timed: Timed::Excursion },
     Case { name: "tick", state: State::InD, timed: Timed::Tick },
 ];
 
@@ -144,6 +154,7 @@ fn opaque(entries: &Entries) -> Entries {
 
 struct Bench {
     timed: Timed,
+    status: u16,
     set: u16,
     table: Vec<u8>,
     tables: Vec<u8>,
@@ -158,13 +169,14 @@ impl Bench {
     fn new(case: &Case, sets: u16, others: Others) -> Bench {
         let set = sets / 2 + 1;
         let bodies: Vec<u8> = (1..=sets).flat_map(body).collect();
-        let command = match case.timed {
-            Timed::Command { opcode, dwords } => command_of(opcode, dwords, set),
-            _ => [0; 64],
+        let (command, status) = match case.timed {
+            Timed::Command { opcode, dwords } => (command_of(opcode, dwords, set), status_of(opcode)),
+            _ => ([0; 64], status::SUCCESS),
         };
         let table = prepared(&bodies, sets, set, case.state, others);
         Bench {
             timed: case.timed,
+            status,
             set,
             tables: table.repeat(BATCH),
             table,
@@ -184,7 +196,7 @@ impl Bench {
             let start = Instant::now();
             let statuses = self.batch(entries);
             nanoseconds += start.elapsed().as_nanos();
-            assert_eq!(statuses, status::SUCCESS, "a timed call is refused");
+            assert_eq!(statuses, self.status, "a timed call is refused");
         }
         nanoseconds as f64 / (BATCH * BATCHES) as f64
     }
@@ -233,11 +245,21 @@ fn configuration() -> [u8; 512] {
 fn command_of(opcode: u8, dwords: [u32; 4], set: u16) -> [u8; 64] {
     let mut command = [0; 64];
     command[0] = opcode;
-    let named = [dwords[0], dwords[1] * u32::from(set), dwords[2], dwords[3]];
+    let times = if dwords[1] & MIDDLE == 0 { 1 } else { u32::from(set) };
+    let named = [dwords[0], dwords[1] * times, dwords[2], dwords[3]];
     for (place, dword) in command[40..56].chunks_exact_mut(4).zip(named) {
         place.copy_from_slice(&dword.to_le_bytes());
     }
     command
+}
+
+/// What a command answers that is carried out.
+fn status_of(opcode: u8) -> u16 {
+    if opcode == ASYNCHRONOUS_EVENT_REQUEST {
+        status::WAITING
+    } else {
+        status::SUCCESS
+    }
 }
 
 /// The table of a case, made by the model. Of mixed sets one in three is off, one in D and one in N.
@@ -257,8 +279,17 @@ fn prepared(bodies: &[u8], sets: u16, named: u16, state: State, others: Others) 
             statuses |= (MODEL.excursion)(&mut table, set, &mut []);
         }
     }
+    if matches!(state, State::Awaited) {
+        statuses |= given(&mut table, SET_FEATURES, [EVENT_NOTICES.into(), NOTICES_BIT, 0, 0]);
+        assert_eq!(given(&mut table, ASYNCHRONOUS_EVENT_REQUEST, [0; 4]), status::WAITING, "a request is refused");
+    }
     assert_eq!(statuses, status::SUCCESS, "the case cannot be prepared");
     table
+}
+
+/// The model's status of a command that names no set and has no data.
+fn given(table: &mut [u8], opcode: u8, dwords: [u32; 4]) -> u16 {
+    (MODEL.command)(table, &command_of(opcode, dwords, 0), &[], &mut [], &mut [])
 }
 
 /// Set Features with 1 in CDW12: enables the mode, or selects D.

@@ -76,8 +76,8 @@ fn make_items(random: &Random, file: &mut impl Write, table: &mut [u8]) -> io::R
         _ => random.below(400),
     };
     for _ in 0..items {
-        let sets = read_table(table).expect("the model leaves a legal table");
-        let item = with_or_without_data(random, samples::item(random, &sets));
+        let card = read_table(table).expect("the model leaves a legal table");
+        let item = with_or_without_data(random, samples::item(random, &card));
         write_item(file, &item)?;
         apply(table, &item);
     }

@@ -1,7 +1,8 @@
 /*
  * A first day with the card's library: two NVM Sets, one of them in Predictable Latency Mode, from set-up to the end of its
- * deterministic window. The program plays all three parts: the firmware that owns the table, the host that sends commands, and the
- * media that reports what was read. README.md has the build command.
+ * deterministic window. The host does not poll for events: it sends requests that wait, and is noticed. The program plays all three
+ * parts: the firmware that owns the table, the host that sends commands, and the media that reports what was read. README.md has the
+ * build command.
  */
 #include <stdbool.h>
 #include <stdio.h>
@@ -16,6 +17,9 @@
 /* The whole state of the card. A firmware would keep it in memory that survives what the card must survive. */
 static uint8_t table[CARD_TABLE_BYTES(SETS)];
 
+/* What the last call said beside its status */
+static uint8_t reply[CARD_REPLY_BYTES];
+
 /* Words for what the functions return */
 
 static const char *words(uint16_t status)
@@ -23,6 +27,8 @@ static const char *words(uint16_t status)
     switch (status) {
     case CARD_OK:
         return "done";
+    case CARD_WAITING:
+        return "waiting";
     case CARD_INVALID_FIELD:
         return "refused, a field is invalid";
     case CARD_TOO_EARLY:
@@ -34,15 +40,26 @@ static const char *words(uint16_t status)
     }
 }
 
+/* Any call but set-up may complete a request that waits, and a firmware looks for that after each: here it would post a completion
+ * with this command identifier and dword 0. The call's own completion goes first. */
+static void tell_notice(void)
+{
+    if (reply[CARD_REPLY_NOTICE])
+        printf("  and event request %u completes with %08lXh: read log page 0Bh\n",
+               (unsigned)get_number(reply + CARD_REPLY_NOTICE_ID, 2), (unsigned long)get_number(reply + CARD_REPLY_NOTICE_DWORD_0, 4));
+}
+
 static void tell(const char *what, uint16_t status)
 {
     printf("%s: %s (%04Xh)\n", what, words(status), status);
+    tell_notice();
 }
 
 /* The host's side: a command is 64 bytes, of which the card reads the opcode and a few dwords. */
 
 struct command {
     uint8_t opcode;
+    uint16_t identifier; /* read of an event request alone */
     uint32_t dword10, dword11, dword12;
     const uint8_t *data; /* what goes to the card */
     size_t data_len;
@@ -52,8 +69,9 @@ struct command {
 
 static uint16_t send_command(const struct command *c)
 {
-    uint8_t entry[CARD_COMMAND_BYTES] = {0}, reply[CARD_REPLY_BYTES];
+    uint8_t entry[CARD_COMMAND_BYTES] = {0};
     entry[0] = c->opcode;
+    put_number(entry + 2, 2, c->identifier);
     put_dword(entry, 10, c->dword10);
     put_dword(entry, 11, c->dword11);
     put_dword(entry, 12, c->dword12);
@@ -61,25 +79,35 @@ static uint16_t send_command(const struct command *c)
                         sizeof reply);
 }
 
-/* Media events and ticks. They have no dword 0 and no data yet, so their replies are not looked at here; but a reply has room for
- * all that a later version may say, and a tick has a buffer for it. */
+/* Media events and ticks. They have no dword 0 and no data yet; but a reply has room for all that a later version may say, and a
+ * tick has a buffer for it. */
 static uint16_t reads(uint16_t set, uint16_t count)
 {
-    uint8_t reply[CARD_REPLY_BYTES];
     return card_reads(table, sizeof table, set, count, reply, sizeof reply);
 }
 
 static uint16_t writes(uint16_t set, uint16_t count)
 {
-    uint8_t reply[CARD_REPLY_BYTES];
     return card_writes(table, sizeof table, set, count, reply, sizeof reply);
 }
 
 static uint16_t tick(uint32_t milliseconds)
 {
     static uint8_t answer[CARD_ANSWER_BYTES];
-    uint8_t reply[CARD_REPLY_BYTES];
     return card_tick(table, sizeof table, milliseconds, answer, sizeof answer, reply, sizeof reply);
+}
+
+/* Set Features 0Bh, with the one bit that the card keeps */
+static uint16_t turn_notices_on(void)
+{
+    return send_command(&(struct command){
+        .opcode = CARD_SET_FEATURES, .dword10 = CARD_FEATURE_EVENTS, .dword11 = CARD_EVENTS_PREDICTABLE_LATENCY});
+}
+
+/* Asynchronous Event Request: it is not completed before there is a notice for it. */
+static uint16_t request_event(uint16_t identifier)
+{
+    return send_command(&(struct command){.opcode = CARD_ASYNC_EVENT_REQUEST, .identifier = identifier});
 }
 
 /* Set Features 13h: the mode is switched on, with the events that the host wants to hear of and a warning threshold of reads. */
@@ -99,7 +127,7 @@ static uint16_t select_deterministic(uint16_t set)
 }
 
 /* Get Log Page, of so many bytes from the page's start. The number of dwords less one stands in dword 10 from bit 16 on; Retain
- * Asynchronous Event, bit 15, is left 0: reading page 0Ah clears what it tells. */
+ * Asynchronous Event, bit 15, is left 0: reading page 0Ah clears what it tells, and reading page 0Bh lets the next notice through. */
 static bool read_log(uint8_t page, uint16_t set, uint8_t *bytes, size_t length)
 {
     uint32_t dwords = (uint32_t)(length / 4);
@@ -187,6 +215,14 @@ static void set_up(void)
     tell("set up a card of sets 7 and 9", card_set_up(table, sizeof table, bodies, sizeof bodies));
 }
 
+/* One notice completes one request, so the host keeps some waiting. */
+static void wait_for_events(void)
+{
+    tell("turn notices on", turn_notices_on());
+    tell("send event request 21", request_event(21));
+    tell("send event request 22", request_event(22));
+}
+
 /* A set that was just enabled has to recover before it can promise anything. */
 static void enter_window(void)
 {
@@ -229,6 +265,7 @@ static void meet_the_others(void)
 int main(void)
 {
     set_up();
+    wait_for_events();
     enter_window();
     be_warned();
     use_up();

@@ -1,7 +1,8 @@
 //! The functions on a lent table, with the inputs of the C functions of include/card.h.
 
-use crate::commands::{carry_out, Answer};
-use crate::layout::{is_rising, read_body, read_table, table_bytes, write_table, BODY_BYTES, MAX_SETS};
+use crate::commands::{carry_out, Answer, Outcome};
+use crate::layout::{is_rising, read_body, read_table, table_bytes, write_table, Card, BODY_BYTES, MAX_SETS};
+use crate::notices::{Notices, NOTICE_DWORD0};
 use crate::set::{Quantity, Set, DAY};
 use crate::status;
 
@@ -11,7 +12,8 @@ pub fn set_up(table: &mut [u8], bodies: &[u8]) -> u16 {
         None => status::BAD_SET_UP,
         Some(sets) if table.len() < table_bytes(sets.len()) => status::TOO_SHORT,
         Some(sets) => {
-            write_table(table, &sets);
+            // Notices "start off and empty".
+            write_table(table, &Card { sets, notices: Notices::default() });
             status::SUCCESS
         }
     }
@@ -31,15 +33,11 @@ fn new_set(body: &[u8]) -> Set {
 }
 
 /// Carries out a command. "Data is handed back as that part of the caller's buffer which was written; bytes after it are
-/// untouched, and a success without data writes none." "Each refusal is given [...] with dword 0 zero, no data, nothing written."
+/// untouched, and a success without data writes none."
 pub fn command(table: &mut [u8], command: &[u8], data: &[u8], answer: &mut [u8], reply: &mut [u8]) -> u16 {
-    let (number, given) = match on_sets(table, |sets| carry_out(sets, command, data, answer.len())) {
-        Ok(given) => (status::SUCCESS, given),
-        Err(number) => (number, Answer::default()),
-    };
+    let given = on_card(table, |card| carry_out(card, command, data, answer.len()));
     answer[..given.data.len()].copy_from_slice(&given.data);
-    write_reply(reply, &given);
-    number
+    told(given, reply)
 }
 
 /// "A read [...] event of k (0..65,535)".
@@ -61,45 +59,59 @@ pub fn excursion(table: &mut [u8], set: u16, reply: &mut [u8]) -> u16 {
 /// its answer buffer.
 pub fn tick(table: &mut [u8], milliseconds: u32, _answer: &mut [u8], reply: &mut [u8]) -> u16 {
     let milliseconds = u64::from(milliseconds);
-    write_reply(reply, &Answer::default());
-    status_of(on_sets(table, |sets| {
+    let given = on_card(table, |card| {
         if milliseconds > DAY {
             return Err(status::LONG_TICK);
         }
-        sets.iter_mut().for_each(|set| set.tick(milliseconds));
-        Ok(())
-    }))
+        card.sets.iter_mut().for_each(|set| set.tick(milliseconds));
+        Ok(Answer::default())
+    });
+    told(given, reply)
 }
 
 /// "Events: bad table 07C3h; unknown set 07C0h".
 fn media_event(table: &mut [u8], identifier: u16, rule: impl FnOnce(&mut Set), reply: &mut [u8]) -> u16 {
-    write_reply(reply, &Answer::default());
-    status_of(on_sets(table, |sets| {
-        let named = sets.iter_mut().find(|set| set.attributes.identifier == identifier);
+    let given = on_card(table, |card| {
+        let named = card.sets.iter_mut().find(|set| set.attributes.identifier == identifier);
         rule(named.ok_or(status::UNKNOWN_SET)?);
-        Ok(())
-    }))
+        Ok(Answer::default())
+    });
+    told(given, reply)
 }
 
-/// Lends the table's sets to a rule and keeps what it made of them. "table not legal, or slice too short" comes first; a refused
-/// item writes nothing.
-fn on_sets<T>(table: &mut [u8], rule: impl FnOnce(&mut [Set]) -> Result<T, u16>) -> Result<T, u16> {
-    let mut sets = read_table(table).ok_or(status::BAD_TABLE)?;
-    let answer = rule(&mut sets)?;
-    write_table(table, &sets);
+/// What an item answers. "Each refusal is given [...] with dword 0 zero, no data, nothing written."
+fn on_card(table: &mut [u8], rule: impl FnOnce(&mut Card) -> Outcome) -> Answer {
+    ruled(table, rule).unwrap_or_else(|status| Answer { status, ..Answer::default() })
+}
+
+/// Lends the table's card to a rule and keeps what it made of it. "table not legal, or slice too short" comes first.
+fn ruled(table: &mut [u8], rule: impl FnOnce(&mut Card) -> Outcome) -> Outcome {
+    let mut card = read_table(table).ok_or(status::BAD_TABLE)?;
+    let before = card.sets.clone();
+    let mut answer = rule(&mut card)?;
+    answer.notice = card.notices.settle(has_listed(&before, &card.sets));
+    write_table(table, &card);
     Ok(answer)
 }
 
-fn status_of(outcome: Result<(), u16>) -> u16 {
-    outcome.err().unwrap_or(status::SUCCESS)
+/// "When an item lists one or more sets that weren't listed".
+fn has_listed(before: &[Set], after: &[Set]) -> bool {
+    before.iter().zip(after).any(|(before, after)| !before.listed && after.listed)
 }
 
-/// Bytes 3:0 dword 0, 7:4 the length of the data, 15:8 zero, as far as the region reaches.
-fn write_reply(reply: &mut [u8], given: &Answer) {
+/// Writes what a call says beside its status, and answers the status. Bytes 3:0 dword 0, 7:4 the length of the data; where a notice
+/// goes beside the answer, 8 is 1, 11:10 the request's identifier and 15:12 its dword 0; the rest zero; as far as the region reaches.
+fn told(given: Answer, reply: &mut [u8]) -> u16 {
     let mut bytes = [0; 16];
     bytes[0..4].copy_from_slice(&given.dword0.to_le_bytes());
     bytes[4..8].copy_from_slice(&(given.data.len() as u32).to_le_bytes());
+    if let Some(identifier) = given.notice {
+        bytes[8] = 1;
+        bytes[10..12].copy_from_slice(&identifier.to_le_bytes());
+        bytes[12..16].copy_from_slice(&NOTICE_DWORD0.to_le_bytes());
+    }
     for (place, byte) in reply.iter_mut().zip(bytes) {
         *place = byte;
     }
+    given.status
 }

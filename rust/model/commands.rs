@@ -1,6 +1,7 @@
 //! The commands, each with its checks in the order of 01's table of status numbers. A check stands only where its field exists.
 
-use crate::layout::little_endian;
+use crate::layout::{little_endian, Card};
+use crate::notices::Notices;
 use crate::pages;
 use crate::set::{Configuration, Set, Window};
 use crate::status;
@@ -12,7 +13,12 @@ pub const GET_LOG_PAGE: u8 = 0x02;
 pub const IDENTIFY: u8 = 0x06;
 pub const SET_FEATURES: u8 = 0x09;
 pub const GET_FEATURES: u8 = 0x0A;
+/// "Add Asynchronous Event Request (opcode 0Ch)".
+pub const ASYNCHRONOUS_EVENT_REQUEST: u8 = 0x0C;
 
+/// "feature 0Bh bit 12 for Get and Set Features".
+pub const EVENT_NOTICES: u8 = 0x0B;
+pub const NOTICES_BIT: u32 = 1 << 12;
 /// Feature 13h, the mode's configuration, and 14h, its window.
 pub const CONFIGURATION: u8 = 0x13;
 pub const WINDOW: u8 = 0x14;
@@ -27,23 +33,37 @@ pub const SET_LIST: u8 = 0x04;
 /// "over 1,024 dwords".
 const MAX_DWORDS: u64 = 1024;
 
-/// What a command that succeeds answers.
+/// What an item that is carried out answers.
 #[derive(Debug, Default, PartialEq, Eq)]
 pub struct Answer {
+    pub status: u16,
     pub dword0: u32,
     pub data: Vec<u8>,
+    /// The request that is completed "beside the item's own answer".
+    pub notice: Option<u16>,
 }
 
-type Outcome = Result<Answer, u16>;
+impl Answer {
+    fn dword(dword0: u32) -> Answer {
+        Answer { dword0, ..Answer::default() }
+    }
 
-/// Carries out a command on the sets of a legal table. `room` is the length of the answer buffer.
-pub fn carry_out(sets: &mut [Set], command: &[u8], data: &[u8], room: usize) -> Outcome {
+    fn data(data: Vec<u8>) -> Answer {
+        Answer { data, ..Answer::default() }
+    }
+}
+
+pub type Outcome = Result<Answer, u16>;
+
+/// Carries out a command on the card of a legal table. `room` is the length of the answer buffer.
+pub fn carry_out(card: &mut Card, command: &[u8], data: &[u8], room: usize) -> Outcome {
     let command = Command(command.try_into().map_err(|_| status::BAD_COMMAND)?);
     match command.opcode() {
-        GET_LOG_PAGE => get_log_page(sets, &command, room),
-        IDENTIFY => identify(sets, &command, room),
-        SET_FEATURES => set_features(sets, &command, data),
-        GET_FEATURES => get_features(sets, &command, room),
+        GET_LOG_PAGE => get_log_page(card, &command, room),
+        IDENTIFY => identify(&card.sets, &command, room),
+        SET_FEATURES => set_features(card, &command, data),
+        GET_FEATURES => get_features(card, &command, room),
+        ASYNCHRONOUS_EVENT_REQUEST => event_request(&mut card.notices, &command),
         _ => Err(status::INVALID_OPCODE),
     }
 }
@@ -56,7 +76,17 @@ impl Command<'_> {
         self.0[0]
     }
 
-    /// Command dword 10, 11, 12 or 13.
+    /// The command identifier: bytes 3:2.
+    fn identifier(&self) -> u16 {
+        self.high_half(0)
+    }
+
+    /// "bit 15 Retain".
+    fn retains(&self) -> bool {
+        self.dword(10) >> 15 & 1 == 1
+    }
+
+    /// Command dword 0, 10, 11, 12 or 13.
     fn dword(&self, number: usize) -> u32 {
         little_endian(&self.0[4 * number..4 * number + 4]) as u32
     }
@@ -80,7 +110,7 @@ impl Command<'_> {
 /// "FID or CNS not listed".
 fn listed_feature(command: &Command) -> Result<u8, u16> {
     match command.subject() {
-        fid @ (CONFIGURATION | WINDOW) => Ok(fid),
+        fid @ (EVENT_NOTICES | CONFIGURATION | WINDOW) => Ok(fid),
         _ => Err(status::INVALID_FIELD),
     }
 }
@@ -108,15 +138,28 @@ fn refuse_if(holds: bool, number: u16) -> Result<(), u16> {
     }
 }
 
-/// "Save in CDW10 bit 31 (Set)". "CDW11 15:0 is the set."
-fn set_features(sets: &mut [Set], command: &Command, data: &[u8]) -> Outcome {
+/// "each answered 07C8h (waiting, no refusal)".
+fn event_request(notices: &mut Notices, command: &Command) -> Outcome {
+    notices.request(command.identifier())?;
+    Ok(Answer { status: status::WAITING, ..Answer::default() })
+}
+
+/// "Save in CDW10 bit 31 (Set)". "CDW11 15:0 is the set."; "FID 0Bh [...] name[s] no set".
+fn set_features(card: &mut Card, command: &Command, data: &[u8]) -> Outcome {
     let fid = listed_feature(command)?;
     refuse_if(command.dword(10) >> 31 == 1, status::NOT_SAVEABLE)?;
-    let set = named_set(sets, command.low_half(11))?;
+    let set = |sets| named_set(sets, command.low_half(11));
     match fid {
-        CONFIGURATION => set_configuration(set, command, data),
-        _ => set_window(set, command),
+        EVENT_NOTICES => set_notices(&mut card.notices, command),
+        CONFIGURATION => set_configuration(set(&mut card.sets)?, command, data),
+        _ => set_window(set(&mut card.sets)?, command),
     }
+}
+
+/// Bit 12 of CDW11, as the Base Specification has it; the others stand for notices that the card has not.
+fn set_notices(notices: &mut Notices, command: &Command) -> Outcome {
+    notices.on = command.dword(11) & NOTICES_BIT != 0;
+    Ok(Answer::default())
 }
 
 /// "13h: CDW12 bit 0 is enable; 512 data bytes hold ENEV 1:0, reads threshold 39:32, writes 47:40, time 55:48".
@@ -144,32 +187,33 @@ fn set_window(set: &mut Set, command: &Command) -> Outcome {
 }
 
 /// "Select in CDW10 10:8 (Get)". "Get returns enable with the 512 bytes, or the window, in dword 0."
-fn get_features(sets: &mut [Set], command: &Command, room: usize) -> Outcome {
+fn get_features(card: &mut Card, command: &Command, room: usize) -> Outcome {
     let fid = listed_feature(command)?;
     refuse_if(command.dword(10) >> 8 & 7 != 0, status::INVALID_FIELD)?;
-    let set = named_set(sets, command.low_half(11))?;
+    let set = |sets| named_set(sets, command.low_half(11));
     match fid {
-        CONFIGURATION => get_configuration(set, room),
-        _ => get_window(set),
+        EVENT_NOTICES => Ok(Answer::dword(if card.notices.on { NOTICES_BIT } else { 0 })),
+        CONFIGURATION => get_configuration(set(&mut card.sets)?, room),
+        _ => get_window(set(&mut card.sets)?),
     }
 }
 
 fn get_configuration(set: &Set, room: usize) -> Outcome {
     refuse_short(room, pages::CONFIGURATION_BYTES)?;
     let enable = set.window != Window::Off;
-    Ok(Answer { dword0: enable.into(), data: pages::configuration_page(&set.configuration) })
+    Ok(Answer { dword0: enable.into(), ..Answer::data(pages::configuration_page(&set.configuration)) })
 }
 
 fn get_window(set: &Set) -> Outcome {
     refuse_off(set)?;
-    Ok(Answer { dword0: set.window as u32, data: Vec::new() })
+    Ok(Answer::dword(set.window as u32))
 }
 
 /// "Log: CDW10 7:0 page".
-fn get_log_page(sets: &mut [Set], command: &Command, room: usize) -> Outcome {
+fn get_log_page(card: &mut Card, command: &Command, room: usize) -> Outcome {
     match command.subject() {
-        SET_PAGE => get_set_page(sets, command, room),
-        LIST_PAGE => get_list_page(sets, command, room),
+        SET_PAGE => get_set_page(&mut card.sets, command, room),
+        LIST_PAGE => get_list_page(card, command, room),
         _ => Err(status::INVALID_LOG_PAGE),
     }
 }
@@ -180,18 +224,20 @@ fn get_set_page(sets: &mut [Set], command: &Command, room: usize) -> Outcome {
     let set = named_set(sets, command.high_half(11))?;
     refuse_short(room, part.length)?;
     let data = part.of(&pages::set_page(set));
-    let retain = command.dword(10) >> 15 & 1 == 1;
-    if !retain {
+    if !command.retains() {
         set.clear_events();
     }
-    Ok(Answer { dword0: 0, data })
+    Ok(Answer::data(data))
 }
 
-/// "Reading changes nothing."
-fn get_list_page(sets: &[Set], command: &Command, room: usize) -> Outcome {
+/// "A successful read of 0Bh with Retain 0 lifts the mask and drops the flag; 01's "reading changes nothing" is amended to that."
+fn get_list_page(card: &mut Card, command: &Command, room: usize) -> Outcome {
     let part = PagePart::asked(command, pages::LIST_PAGE_BYTES)?;
     refuse_short(room, part.length)?;
-    Ok(Answer { dword0: 0, data: part.of(&pages::list_page(sets)) })
+    if !command.retains() {
+        card.notices.lift();
+    }
+    Ok(Answer::data(part.of(&pages::list_page(&card.sets))))
 }
 
 /// The bytes of a page that a log read asks for.
@@ -223,5 +269,5 @@ impl PagePart {
 fn identify(sets: &[Set], command: &Command, room: usize) -> Outcome {
     refuse_if(command.subject() != SET_LIST, status::INVALID_FIELD)?;
     refuse_short(room, pages::IDENTIFY_BYTES)?;
-    Ok(Answer { dword0: 0, data: pages::identify_page(sets, command.low_half(11)) })
+    Ok(Answer::data(pages::identify_page(sets, command.low_half(11))))
 }

@@ -1,23 +1,30 @@
 //! The table's words (docs/LAYOUT.md) and the sets they stand for, and the bodies of set-up.
 
+use crate::notices::{Notices, MAX_WAITING};
 use crate::set::{Attributes, Configuration, Set, Window};
 
 /// "Up to 31 sets."
 pub const MAX_SETS: usize = 31;
 pub const WORD_BYTES: usize = 8;
 pub const ROW_WORDS: usize = field::LISTED + 1;
-pub const HEADER_BYTES: usize = WORD_BYTES * (header::SETS + 1);
+pub const HEADER_WORDS: usize = header::REQUESTS + MAX_WAITING;
+pub const HEADER_BYTES: usize = WORD_BYTES * HEADER_WORDS;
 pub const ROW_BYTES: usize = WORD_BYTES * ROW_WORDS;
 /// "07h set attributes in the order above, 84".
 pub const BODY_BYTES: usize = 84;
 
 /// The number of this layout: a table that has another was written by another version.
-pub const LAYOUT_NUMBER: u64 = 0x1_0001;
+pub const LAYOUT_NUMBER: u64 = 0x1_0002;
 
-/// The place of each word in the header.
+/// The place of each word in the header. The identifiers of the waiting requests have four, the oldest first.
 pub mod header {
     pub const LAYOUT: usize = 0;
     pub const SETS: usize = 1;
+    pub const ON: usize = 2;
+    pub const MASKED: usize = 3;
+    pub const FLAG: usize = 4;
+    pub const WAITING: usize = 5;
+    pub const REQUESTS: usize = 6;
 }
 
 /// The place of each word in its row. A capacity has two, the lower first.
@@ -53,25 +60,75 @@ pub const fn table_bytes(sets: usize) -> usize {
     HEADER_BYTES + ROW_BYTES * sets
 }
 
-/// The sets of a legal table: "1 to 31 sets, identifiers strictly rising, statics in range; [...]". None where the table is not
-/// legal or its slice too short.
-pub fn read_table(table: &[u8]) -> Option<Vec<Set>> {
+/// What a table stands for.
+#[derive(Clone, Debug, PartialEq, Eq)]
+pub struct Card {
+    pub sets: Vec<Set>,
+    pub notices: Notices,
+}
+
+impl Card {
+    /// 01: "1 to 31 sets, identifiers strictly rising, statics in range; [...]". 02: "at most four waiting, and no flag [...]".
+    fn is_legal(&self) -> bool {
+        (1..=MAX_SETS).contains(&self.sets.len())
+            && self.sets.iter().all(Set::is_legal)
+            && is_rising(&self.sets)
+            && self.notices.is_legal()
+    }
+}
+
+/// The card of a legal table. None where the table is not legal or its slice too short.
+pub fn read_table(table: &[u8]) -> Option<Card> {
     let words = table.get(..HEADER_BYTES)?;
     let sets = word_of(words, header::SETS);
-    if word_of(words, header::LAYOUT) != LAYOUT_NUMBER || !(1..=MAX_SETS as u64).contains(&sets) {
+    if word_of(words, header::LAYOUT) != LAYOUT_NUMBER || sets > MAX_SETS as u64 {
         return None;
     }
     let rows = table.get(HEADER_BYTES..table_bytes(sets as usize))?;
-    let read: Vec<Set> = rows.chunks_exact(ROW_BYTES).map(read_row).collect::<Option<_>>()?;
-    Some(read).filter(|sets| sets.iter().all(Set::is_legal) && is_rising(sets))
+    let sets = rows.chunks_exact(ROW_BYTES).map(read_row).collect::<Option<_>>()?;
+    Some(Card { sets, notices: read_notices(words)? }).filter(Card::is_legal)
 }
 
 /// Writes header and rows; "words past it are neither read nor written".
-pub fn write_table(table: &mut [u8], sets: &[Set]) {
-    let words = [LAYOUT_NUMBER, sets.len() as u64].into_iter().chain(sets.iter().flat_map(row_of));
+pub fn write_table(table: &mut [u8], card: &Card) {
+    let words = header_of(card).into_iter().chain(card.sets.iter().flat_map(row_of));
     for (place, word) in table.chunks_exact_mut(WORD_BYTES).zip(words) {
         place.copy_from_slice(&word.to_le_bytes());
     }
+}
+
+/// What the header says of notices, whether legal or not, if it says anything: no word is too large for its field, and the places
+/// past the waiting requests are zero.
+fn read_notices(words: &[u8]) -> Option<Notices> {
+    let waiting = usize::try_from(word_of(words, header::WAITING)).ok().filter(|&waiting| waiting <= MAX_WAITING)?;
+    let requests: [u64; MAX_WAITING] = std::array::from_fn(|place| word_of(words, header::REQUESTS + place));
+    let (used, unused) = requests.split_at(waiting);
+    if unused.iter().any(|&word| word != 0) {
+        return None;
+    }
+    Some(Notices {
+        on: mark(word_of(words, header::ON))?,
+        masked: mark(word_of(words, header::MASKED))?,
+        flag: mark(word_of(words, header::FLAG))?,
+        waiting: used.iter().map(|&word| word.try_into().ok()).collect::<Option<_>>()?,
+    })
+}
+
+fn header_of(card: &Card) -> [u64; HEADER_WORDS] {
+    let Card { sets, notices } = card;
+    let request = |place: usize| notices.waiting.get(place).copied().unwrap_or(0).into();
+    [
+        LAYOUT_NUMBER,
+        sets.len() as u64,
+        notices.on.into(),
+        notices.masked.into(),
+        notices.flag.into(),
+        notices.waiting.len() as u64,
+        request(0),
+        request(1),
+        request(2),
+        request(3),
+    ]
 }
 
 /// "identifiers strictly rising".

@@ -90,7 +90,7 @@ impl Player {
     }
 
     /// "a line per item of status, dword 0 and, if given, data, all upper-case hex; then "end N"." "Unknown kind, a late 07h or a
-    /// cut body: "bad N" with the number of items done, then stop".
+    /// cut body: "bad N" with the number of items done, then stop". A notice's line follows its item's, and is no item.
     fn play(&mut self, input: &mut impl BufRead, output: &mut impl Write) -> io::Result<()> {
         let mut kind = [0];
         let mut body = [0; 576];
@@ -102,20 +102,20 @@ impl Player {
             };
             let number = self.item(kind[0], whole);
             self.print_line(number, output)?;
+            self.print_notice(output)?;
             done += 1;
         }
         writeln!(output, "end {}", done)
     }
 
-    /// Does one item and answers its status. What is no command has dword 0 zero and no data.
+    /// Does one item and answers its status.
     fn item(&mut self, kind: u8, body: &[u8]) -> u16 {
-        self.reply = [0; REPLY_BYTES];
         let half = |at: usize| little_endian(&body[at..at + 2]) as u16;
         match kind {
-            READS => card::reads(&mut self.table, half(0), half(2), &mut []),
-            WRITES => card::writes(&mut self.table, half(0), half(2), &mut []),
-            EXCURSION => card::excursion(&mut self.table, half(0), &mut []),
-            TICK => card::tick(&mut self.table, little_endian(body) as u32, &mut [], &mut []),
+            READS => card::reads(&mut self.table, half(0), half(2), &mut self.reply),
+            WRITES => card::writes(&mut self.table, half(0), half(2), &mut self.reply),
+            EXCURSION => card::excursion(&mut self.table, half(0), &mut self.reply),
+            TICK => card::tick(&mut self.table, little_endian(body) as u32, &mut [], &mut self.reply),
             _ => {
                 let (command, data) = body.split_at(COMMAND_BYTES);
                 card::command(&mut self.table, command, data, &mut self.answer, &mut self.reply)
@@ -131,6 +131,14 @@ impl Player {
             output.write_all(&hexadecimal(data))?;
         }
         output.write_all(b"\n")
+    }
+
+    /// "replay adds a line: identifier, dword 0".
+    fn print_notice(&self, output: &mut impl Write) -> io::Result<()> {
+        if self.reply[8] == 0 {
+            return Ok(());
+        }
+        writeln!(output, "{:04X} {:08X}", little_endian(&self.reply[10..12]), little_endian(&self.reply[12..16]))
     }
 }
 

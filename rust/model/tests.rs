@@ -1,14 +1,22 @@
-//! 01's whole run and its edges, on the set of the run.
+//! 01's whole run and its edges, and 02's W1, on the set of the run.
 
-use crate::commands::{CONFIGURATION, GET_FEATURES, GET_LOG_PAGE, IDENTIFY, LIST_PAGE, SET_FEATURES, SET_LIST, SET_PAGE, WINDOW};
-use crate::layout::{little_endian, read_table, table_bytes, write_table};
+use crate::commands::{
+    ASYNCHRONOUS_EVENT_REQUEST, CONFIGURATION, EVENT_NOTICES, GET_FEATURES, GET_LOG_PAGE, IDENTIFY, LIST_PAGE, SET_FEATURES,
+    SET_LIST, SET_PAGE, WINDOW,
+};
+use crate::layout::{header, little_endian, put_word, read_table, table_bytes, write_table};
+use crate::notices::Notices;
 use crate::set::{Set, Window};
 use crate::{card, status, tape};
 
 /// "Whole run: set 7, typicals 100 and 50, maximum 1000, high 20, low 5."
 fn body() -> Vec<u8> {
+    body_of(7)
+}
+
+fn body_of(set: u16) -> Vec<u8> {
     let mut body = Vec::new();
-    body.extend(7u16.to_le_bytes());
+    body.extend(set.to_le_bytes());
     body.extend(1u16.to_le_bytes());
     body.extend(2u32.to_le_bytes());
     body.extend(3u32.to_le_bytes());
@@ -48,6 +56,24 @@ fn select_d() -> Vec<u8> {
 fn log(page: u8, retain: bool, dwords: u32, offset: u32) -> Vec<u8> {
     command(GET_LOG_PAGE, [(dwords - 1) << 16 | u32::from(retain) << 15 | u32::from(page), 7 << 16, offset, 0])
 }
+
+/// An Asynchronous Event Request with this command identifier.
+fn request(identifier: u16) -> Vec<u8> {
+    let mut command = command(ASYNCHRONOUS_EVENT_REQUEST, [0; 4]);
+    command[2..4].copy_from_slice(&identifier.to_le_bytes());
+    command
+}
+
+/// The request that a reply says is completed, with its dword 0; none has eight zeros.
+fn notice_in(reply: &[u8; 16]) -> Option<(u16, u32)> {
+    match reply[8..] {
+        [0, 0, 0, 0, 0, 0, 0, 0] => None,
+        [1, 0, ref rest @ ..] => Some((little_endian(&rest[..2]) as u16, little_endian(&rest[2..]) as u32)),
+        _ => panic!("bytes 9:8 of a reply are 0 or 1"),
+    }
+}
+
+const DWORD0: u32 = 0x000B_0402;
 
 /// A card with the set of the run.
 struct Card(Vec<u8>);
@@ -91,16 +117,48 @@ impl Card {
         assert_eq!(card::reads(&mut self.0, 7, count, &mut []), status::SUCCESS);
     }
 
+    /// The same, and the notice that goes beside it.
+    fn noticed_reads(&mut self, count: u16) -> Option<(u16, u32)> {
+        let mut reply = [0xEE; 16];
+        assert_eq!(card::reads(&mut self.0, 7, count, &mut reply), status::SUCCESS);
+        assert_eq!(reply[..8], [0; 8]);
+        notice_in(&reply)
+    }
+
+    /// Status, and the notice that goes beside it.
+    fn noticed(&mut self, command: &[u8]) -> (u16, Option<(u16, u32)>) {
+        let mut reply = [0xEE; 16];
+        let number = card::command(&mut self.0, command, &[], &mut [0; 72], &mut reply);
+        (number, notice_in(&reply))
+    }
+
+    fn request(&mut self, identifier: u16) -> (u16, Option<(u16, u32)>) {
+        self.noticed(&request(identifier))
+    }
+
+    fn switch(&mut self, on: bool) -> (u16, Option<(u16, u32)>) {
+        self.noticed(&command(SET_FEATURES, [EVENT_NOTICES.into(), u32::from(on) << 12, 0, 0]))
+    }
+
+    /// A read of 0Bh.
+    fn look(&mut self, retain: bool) {
+        assert_eq!(self.noticed(&log(LIST_PAGE, retain, 1, 0)), (status::SUCCESS, None));
+    }
+
+    fn notices(&self) -> Notices {
+        read_table(&self.0).expect("the table is legal").notices
+    }
+
     fn tick(&mut self, milliseconds: u32) {
         assert_eq!(card::tick(&mut self.0, milliseconds, &mut [], &mut []), status::SUCCESS);
     }
 
     fn set(&self) -> Set {
-        read_table(&self.0).expect("the table is legal")[0].clone()
+        read_table(&self.0).expect("the table is legal").sets[0].clone()
     }
 
     fn listed(&mut self) -> u128 {
-        little_endian(&self.give(&log(LIST_PAGE, false, 2, 0), &[]).2)
+        little_endian(&self.give(&log(LIST_PAGE, true, 2, 0), &[]).2)
     }
 }
 
@@ -268,4 +326,165 @@ fn legal_tables_are_kept_word_for_word() {
     let mut copy = vec![0; card.0.len()];
     write_table(&mut copy, &read_table(&card.0).expect("the table is legal"));
     assert_eq!(copy, card.0);
+}
+
+fn state(on: bool, masked: bool, flag: bool, waiting: &[u16]) -> Notices {
+    Notices { on, masked, flag, waiting: waiting.to_vec() }
+}
+
+#[test]
+fn notices_start_off_and_empty() {
+    assert_eq!(Card::new().notices(), state(false, false, false, &[]));
+}
+
+#[test]
+fn four_requests_wait_and_a_fifth_is_too_many() {
+    let mut card = Card::new();
+    for identifier in [9, 9, 0, 0xFFFF] {
+        assert_eq!(card.request(identifier), (0x07C8, None));
+    }
+    let before = card.0.clone();
+    assert_eq!(card.request(5), (0x0105, None));
+    assert_eq!(card.0, before);
+    assert_eq!(card.notices().waiting, [9, 9, 0, 0xFFFF]);
+}
+
+#[test]
+fn a_listing_completes_the_oldest_request_and_masks_further_notices() {
+    let mut card = Card::in_d();
+    assert_eq!(card.switch(true), (0, None));
+    assert_eq!((card.request(0x1234).0, card.request(0x5678).0), (0x07C8, 0x07C8));
+    assert_eq!(card.noticed_reads(90), None);
+    assert_eq!(card.noticed_reads(1), Some((0x1234, DWORD0)));
+    assert_eq!(card.notices(), state(true, true, false, &[0x5678]));
+    // The set is listed: an event more lists none that was not.
+    assert_eq!(card.noticed_reads(10), None);
+    assert_eq!((card.set().events, card.notices()), (0x4001, state(true, true, false, &[0x5678])));
+}
+
+#[test]
+fn what_cannot_be_sent_is_remembered() {
+    for (on, masked, waiting) in [(false, false, &[7][..]), (true, true, &[7]), (true, false, &[]), (false, true, &[])] {
+        let mut card = Card::in_d();
+        let mut held = read_table(&card.0).expect("the table is legal");
+        held.notices = state(on, masked, false, waiting);
+        write_table(&mut card.0, &held);
+        assert_eq!(card.noticed_reads(91), None);
+        assert_eq!(card.notices(), state(on, masked, true, waiting));
+    }
+}
+
+#[test]
+fn the_flag_is_served_by_a_request_and_by_switching_on() {
+    let mut card = Card::in_d();
+    assert_eq!(card.switch(true), (0, None));
+    assert_eq!(card.noticed_reads(91), None);
+    assert_eq!(card.request(0), (0x07C8, Some((0, DWORD0))));
+    assert_eq!(card.notices(), state(true, true, false, &[]));
+
+    let mut card = Card::in_d();
+    assert_eq!((card.request(3), card.request(2)), ((0x07C8, None), (0x07C8, None)));
+    assert_eq!(card.noticed_reads(91), None);
+    assert_eq!(card.switch(false), (0, None));
+    // A flag stays though its set is cleared.
+    assert_eq!(card.give(&log(SET_PAGE, false, 128, 0), &[]).0, 0);
+    assert_eq!((card.listed(), card.switch(true)), (0, (0, Some((3, DWORD0)))));
+    assert_eq!(card.notices(), state(true, true, false, &[2]));
+}
+
+#[test]
+fn only_a_read_of_0bh_without_retain_lifts_and_it_sends_nothing() {
+    let mut card = Card::in_d();
+    card.switch(true);
+    card.request(1);
+    card.request(2);
+    assert_eq!(card.noticed_reads(91), Some((1, DWORD0)));
+    assert_eq!(card.give(&log(SET_PAGE, false, 128, 0), &[]).0, 0);
+    assert_eq!(card.noticed_reads(10), None);
+    assert_eq!(card.notices(), state(true, true, true, &[2]));
+    card.look(true);
+    assert_eq!(card.noticed(&log(LIST_PAGE, false, 19, 0)), (status::TOO_SHORT, None));
+    assert_eq!(card.notices(), state(true, true, true, &[2]));
+    assert_eq!((card.switch(false), card.switch(true)), ((0, None), (0, None)));
+    assert_eq!(card.notices(), state(true, true, true, &[2]));
+    assert_eq!(card.noticed(&log(LIST_PAGE, false, 1, 72)), (status::SUCCESS, None));
+    assert_eq!((card.notices(), card.set().listed), (state(true, false, false, &[2]), true));
+}
+
+#[test]
+fn feature_0bh_has_one_bit_and_names_no_set() {
+    let mut card = Card::new();
+    let get = |select: u32| command(GET_FEATURES, [u32::from(EVENT_NOTICES) | select << 8, 8, 0, 0]);
+    let set = |bits: u32| command(SET_FEATURES, [EVENT_NOTICES.into(), bits, 0, 0]);
+    assert_eq!(card.give(&get(0), &[]), (0, 0, vec![]));
+    assert_eq!(card.give(&set(0xFFFF_FFFF), &[]), (0, 0, vec![]));
+    assert_eq!(card.give(&get(0), &[]), (0, 0x1000, vec![]));
+    assert_eq!(card.give(&set(0xFFFF_EFFF), &[]), (0, 0, vec![]));
+    assert_eq!(card.give(&get(0), &[]), (0, 0, vec![]));
+    assert_eq!(card.give(&get(1), &[]), (status::INVALID_FIELD, 0, vec![]));
+    let save = command(SET_FEATURES, [u32::from(EVENT_NOTICES) | 1 << 31, 0x1000, 0, 0]);
+    assert_eq!(card.give(&save, &[]), (status::NOT_SAVEABLE, 0, vec![]));
+}
+
+#[test]
+fn a_tick_that_lists_two_sets_gives_one_notice() {
+    let mut table = vec![0; table_bytes(2)];
+    assert_eq!(card::set_up(&mut table, &[body(), body_of(9)].concat()), status::SUCCESS);
+    let mut card = Card(table);
+    card.switch(true);
+    card.request(1);
+    card.request(2);
+    for set in [7, 9] {
+        let enable = command(SET_FEATURES, [CONFIGURATION.into(), set, 1, 0]);
+        assert_eq!(card.give(&enable, &configuration(0x4000, [0; 3])).0, status::SUCCESS);
+    }
+    card.tick(20);
+    for set in [7, 9] {
+        assert_eq!(card.noticed(&command(SET_FEATURES, [WINDOW.into(), set, 1, 0])), (status::SUCCESS, None));
+    }
+    let mut reply = [0xEE; 16];
+    assert_eq!(card::tick(&mut card.0, 1000, &mut [], &mut reply), status::SUCCESS);
+    assert_eq!(notice_in(&reply), Some((1, DWORD0)));
+    assert_eq!((card.notices(), card.listed()), (state(true, true, false, &[2]), 2));
+}
+
+#[test]
+fn a_select_d_that_warns_gives_a_notice() {
+    let mut card = Card::new();
+    card.enable(0x0001, [101, 0, 0]);
+    card.tick(20);
+    card.switch(true);
+    card.request(0xABCD);
+    assert_eq!(card.noticed(&select_d()), (status::SUCCESS, Some((0xABCD, DWORD0))));
+}
+
+/// 02: "Legal: at most four waiting, and no flag that could be served at once."
+#[test]
+fn a_flag_that_could_be_served_is_not_legal() {
+    use header::*;
+    let is_legal = |words: &[(usize, u64)]| {
+        let mut table = Card::new().0;
+        words.iter().for_each(|&(place, word)| put_word(&mut table, place, word));
+        read_table(&table).is_some()
+    };
+    assert!(!is_legal(&[(ON, 1), (FLAG, 1), (WAITING, 1)]));
+    assert!(is_legal(&[(ON, 1), (FLAG, 1)]));
+    assert!(is_legal(&[(FLAG, 1), (WAITING, 1)]));
+    assert!(is_legal(&[(ON, 1), (MASKED, 1), (FLAG, 1), (WAITING, 4)]));
+    assert!(!is_legal(&[(WAITING, 5)]));
+    assert!(!is_legal(&[(WAITING, 1), (REQUESTS + 1, 1)]));
+    assert!(!is_legal(&[(WAITING, 1), (REQUESTS, 0x1_0000)]));
+    assert!(!is_legal(&[(ON, 2)]));
+}
+
+#[test]
+fn replay_adds_a_line_for_the_notice() {
+    let mut file = whole_run_file();
+    let at = set_up_file().len();
+    let on = command(SET_FEATURES, [EVENT_NOTICES.into(), 1 << 12, 0, 0]);
+    let first = [&[tape::COMMAND][..], &on, &[tape::COMMAND], &request(0x00A5)].concat();
+    file.splice(at..at, first);
+    let expected = "sets 1 0000\n0000 00000000\n07C8 00000000\n0000 00000000\n0000 00000000\n0000 00000000\n0000 00000000\n\
+                    00A5 000B0402\n0000 00000000 010000000000000007000000\n0000 00000000\n0000 00000002\n07C1 00000000\nend 10\n";
+    assert_eq!(printout(&file), expected);
 }

@@ -2,7 +2,9 @@
 
 use crate::entries::Entries;
 use crate::random::Random;
-use model::commands::{COMMAND_BYTES, GET_FEATURES, GET_LOG_PAGE, SET_FEATURES, SET_PAGE};
+use model::commands::{
+    ASYNCHRONOUS_EVENT_REQUEST, COMMAND_BYTES, EVENT_NOTICES, GET_FEATURES, GET_LOG_PAGE, LIST_PAGE, SET_FEATURES, SET_PAGE,
+};
 use model::tape;
 
 const GUARD_BYTES: usize = 16;
@@ -119,7 +121,24 @@ impl Call {
         (command[0] == SET_FEATURES).then(|| (command[40], half(command, 44)))
     }
 
-    /// The set that the item names: "events other than ticks, feature commands and reads of 0Ah".
+    /// FID of a Get Features.
+    pub fn get_features(&self) -> Option<u8> {
+        let command = self.whole_command()?;
+        (command[0] == GET_FEATURES).then(|| command[40])
+    }
+
+    pub fn is_request(&self) -> bool {
+        self.whole_command().map_or(false, |command| command[0] == ASYNCHRONOUS_EVENT_REQUEST)
+    }
+
+    /// Retain of a read of 0Bh.
+    pub fn list_read(&self) -> Option<bool> {
+        let command = self.whole_command()?;
+        (command[0] == GET_LOG_PAGE && command[40] == LIST_PAGE).then(|| command[41] & 0x80 != 0)
+    }
+
+    /// The set that the item names: "events other than ticks, feature commands and reads of 0Ah"; but "Opcode 0Ch and FID 0Bh [...]
+    /// name no set".
     pub fn set_named(&self) -> Option<u16> {
         match self.function {
             Function::Reads { set, .. } | Function::Writes { set, .. } | Function::Excursion { set } => Some(set),
@@ -127,6 +146,7 @@ impl Call {
             Function::Command => {
                 let command = self.whole_command()?;
                 match (command[0], command[40]) {
+                    (SET_FEATURES | GET_FEATURES, EVENT_NOTICES) => None,
                     (SET_FEATURES | GET_FEATURES, _) => Some(half(command, 44)),
                     (GET_LOG_PAGE, SET_PAGE) => Some(half(command, 46)),
                     _ => None,
@@ -136,6 +156,9 @@ impl Call {
     }
 
     fn whole_command(&self) -> Option<&[u8]> {
+        if self.function != Function::Command {
+            return None;
+        }
         Some(self.regions.command.content()).filter(|command| command.len() == COMMAND_BYTES)
     }
 

@@ -3,8 +3,11 @@
 use crate::calls::{Call, Function, Outcome, Regions, Takes};
 use crate::entries::MODEL;
 use crate::random::Random;
-use model::commands::{COMMAND_BYTES, CONFIGURATION, GET_FEATURES, GET_LOG_PAGE, IDENTIFY, LIST_PAGE, SET_FEATURES, SET_LIST};
-use model::layout::{header, put_word, BODY_BYTES, HEADER_BYTES, LAYOUT_NUMBER, MAX_SETS, ROW_WORDS, WORD_BYTES};
+use model::commands::{
+    ASYNCHRONOUS_EVENT_REQUEST, COMMAND_BYTES, CONFIGURATION, EVENT_NOTICES, GET_FEATURES, GET_LOG_PAGE, IDENTIFY, LIST_PAGE,
+    SET_FEATURES, SET_LIST,
+};
+use model::layout::{header, put_word, word_of, BODY_BYTES, HEADER_WORDS, LAYOUT_NUMBER, MAX_SETS, ROW_WORDS, WORD_BYTES};
 use model::status;
 use std::collections::BTreeMap;
 
@@ -40,11 +43,14 @@ const FIELDS: [&str; ROW_WORDS] = [
     "listed",
 ];
 
+/// The names of the header's words, in their order.
+const HEADER: [&str; HEADER_WORDS] =
+    ["layout", "sets", "on", "masked", "flag", "waiting", "request-1", "request-2", "request-3", "request-4"];
+
 /// The thirteen numbers of a set's attributes, which are also the first words of its row, and their widths in a body.
 type Attributes = [u64; 13];
 const WIDTHS: [usize; 13] = [2, 2, 4, 4, 8, 8, 8, 8, 8, 8, 8, 8, 8];
 
-const HEADER_WORDS: usize = HEADER_BYTES / WORD_BYTES;
 /// Room for one set more than a card may have.
 const ROOM: usize = HEADER_WORDS + (MAX_SETS + 1) * ROW_WORDS;
 const ANSWER_BYTES: usize = 4096;
@@ -135,9 +141,8 @@ impl<'a> Cases<'a> {
 
     fn place(&self, word: &str) -> usize {
         match word.split_once('.') {
-            None if word == "layout" => header::LAYOUT,
-            None if word == "sets" => header::SETS,
-            None => HEADER_WORDS + self.sets.len() * ROW_WORDS,
+            None if word == "past" => HEADER_WORDS + self.sets.len() * ROW_WORDS,
+            None => HEADER.iter().position(|&name| name == word).unwrap_or_else(|| panic!("{} is no word of the header", word)),
             Some((set, field)) => {
                 let slot = self.sets.iter().position(|attributes| attributes[0] == number(set)).expect("a set of the card");
                 HEADER_WORDS + slot * ROW_WORDS + field_place(field)
@@ -151,7 +156,10 @@ impl<'a> Cases<'a> {
         for word in words {
             match word.split_once('=').expect("a word and its value") {
                 ("words", lent) => table.truncate(WORD_BYTES * lent_words(lent)),
-                ("header", kept) => drop(table.drain(..WORD_BYTES * (HEADER_WORDS - number(kept) as usize))),
+                ("header", kept) => {
+                    drop(table.drain(WORD_BYTES * header::ON..WORD_BYTES * HEADER_WORDS));
+                    drop(table.drain(..WORD_BYTES * (header::ON - number(kept) as usize)));
+                }
                 (word, value) => put_word(&mut table, self.place(word), number(value)),
             }
         }
@@ -169,11 +177,15 @@ impl<'a> Cases<'a> {
         ];
         let mut calls: Vec<Call> = media.iter().map(|&function| Call::item(&self.random, function, &table)).collect();
         let feature = [u32::from(CONFIGURATION), u32::from(set), 1, 0];
+        let notices = [EVENT_NOTICES.into(), 1 << 12, 0, 0];
         let views = [
             (SET_FEATURES, feature),
             (GET_FEATURES, feature),
+            (SET_FEATURES, notices),
+            (GET_FEATURES, notices),
             (GET_LOG_PAGE, [LIST_PAGE.into(), 0, 0, 0]),
             (IDENTIFY, [SET_LIST.into(), 0, 0, 0]),
+            (ASYNCHRONOUS_EVENT_REQUEST, [0; 4]),
         ];
         for (opcode, dwords) in views {
             let command = Command { data: vec![0; 512], ..Command::new(opcode.into(), dwords) };
@@ -182,7 +194,7 @@ impl<'a> Cases<'a> {
         for call in calls {
             let expected = match refusal {
                 Some(number) => refused(&call, number),
-                None => self.model_outcome(&call, status::SUCCESS)?,
+                None => self.model_outcome(&call, number_on(&call, &table))?,
             };
             self.check(&call, expected)?;
         }
@@ -263,10 +275,12 @@ impl<'a> Cases<'a> {
         let answered = hexadecimal(words.next().ok_or("no outcome")?) as u16;
         let mut outcome = refused(call, answered);
         let (mut dword0, mut data) = (0, Vec::new());
+        let mut reply = [0; 16];
         for word in words {
             match word.split_once(['=', ':'].as_ref()) {
                 None => return self.model_outcome(call, answered),
                 Some(("dword", value)) => dword0 = number(value) as u32,
+                Some(("notice", identifier)) => put_notice(&mut reply, number(identifier) as u16),
                 Some(("data", length)) => data.resize(number(length) as usize, 0),
                 Some(("lists", sets)) => data = self.set_list(sets),
                 Some((offset, dword)) if word.contains(':') => {
@@ -277,10 +291,10 @@ impl<'a> Cases<'a> {
             }
         }
         outcome.regions.answer.lend()[..data.len()].copy_from_slice(&data);
-        if call.function == Function::Command {
-            outcome.regions.reply.lend()[0..4].copy_from_slice(&dword0.to_le_bytes());
-            outcome.regions.reply.lend()[4..8].copy_from_slice(&(data.len() as u32).to_le_bytes());
-        }
+        reply[0..4].copy_from_slice(&dword0.to_le_bytes());
+        reply[4..8].copy_from_slice(&(data.len() as u32).to_le_bytes());
+        // As far as it reaches, and no byte past the sixteenth.
+        outcome.regions.reply.lend().iter_mut().zip(reply).for_each(|(place, byte)| *place = byte);
         Ok(outcome)
     }
 
@@ -333,6 +347,22 @@ fn refused(call: &Call, status: u16) -> Outcome {
     Outcome { status, regions }
 }
 
+/// What an item of `edge` answers: only a request tells how it was carried out, and is refused where four wait.
+fn number_on(call: &Call, table: &[u8]) -> u16 {
+    match call.is_request() {
+        false => status::SUCCESS,
+        true if word_of(table, header::WAITING) == 4 => status::TOO_MANY_REQUESTS,
+        true => status::WAITING,
+    }
+}
+
+/// "that request completes with dword 0 = 000B0402h": byte 8 is 1, 11:10 the identifier, 15:12 its dword 0.
+fn put_notice(reply: &mut [u8; 16], identifier: u16) {
+    reply[8] = 1;
+    reply[10..12].copy_from_slice(&identifier.to_le_bytes());
+    reply[12..16].copy_from_slice(&[0x02, 0x04, 0x0B, 0x00]);
+}
+
 /// A command with its lengths, as a case gives it.
 struct Command {
     opcode: u32,
@@ -359,6 +389,7 @@ impl Command {
             "get" => Command::new(GET_FEATURES.into(), [at(0), at(1), 0, 0]),
             "log" => Command::new(GET_LOG_PAGE.into(), [at(0), at(1) << 16, 0, 0]),
             "identify" => Command::new(IDENTIFY.into(), [SET_LIST.into(), at(0), 0, 0]),
+            "request" => Command::new(u32::from(ASYNCHRONOUS_EVENT_REQUEST) | at(0) << 16, [0; 4]),
             "command" => Command::new(at(0), [at(1), at(2), at(3), at(4)]),
             _ => panic!("{} is no item", words[0]),
         };
@@ -424,7 +455,9 @@ fn body(attributes: &Attributes) -> Vec<u8> {
     attributes.iter().zip(WIDTHS).flat_map(|(number, width)| number.to_le_bytes().into_iter().take(width)).collect()
 }
 
+/// A new header: notices "start off and empty".
 fn put_header(table: &mut [u8], sets: usize) {
+    table[..WORD_BYTES * HEADER_WORDS].fill(0);
     put_word(table, header::LAYOUT, LAYOUT_NUMBER);
     put_word(table, header::SETS, sets as u64);
 }

@@ -2,7 +2,9 @@
 
 use crate::calls::{Call, Function, Outcome};
 use crate::holding::Trial;
-use model::commands::CONFIGURATION;
+use model::commands::{CONFIGURATION, EVENT_NOTICES};
+use model::layout::Card;
+use model::notices::Notices;
 use model::set::{Quantity, Set, Window};
 use model::status;
 use std::collections::BTreeMap;
@@ -44,6 +46,34 @@ const BRANCHES: [&str; 26] = [
     "damaged table still legal",
 ];
 
+/// What is met of requests and notices.
+const NOTICES: [&str; 24] = [
+    "notice sent by reads",
+    "notice sent by writes",
+    "notice sent by an excursion",
+    "notice sent by a tick",
+    "notice sent by a tick that lists several sets",
+    "notice sent by a select D that warns",
+    "notice sent by Set 0Bh",
+    "notice sent by an arriving request",
+    "notice sent while others wait",
+    "flag served with no set listed",
+    "flag raised while off",
+    "flag raised while masked",
+    "flag raised with no request",
+    "event of a listed set sends nothing",
+    "request waits while off",
+    "request waits while masked",
+    "request with an identifier that waits",
+    "flag dropped by a read of 0Bh",
+    "mask lifted by a read of 0Bh",
+    "mask and flag kept by a read of 0Bh with Retain",
+    "mask and flag kept by Set 0Bh",
+    "requests kept by Set 0Bh off",
+    "Get 0Bh while on",
+    "Get 0Bh while off",
+];
+
 pub struct Counts {
     statuses: BTreeMap<u16, u64>,
     branches: BTreeMap<&'static str, u64>,
@@ -54,7 +84,7 @@ impl Counts {
         let bits = EVENT_BITS.iter().map(|&(_, name)| name);
         Counts {
             statuses: status::ALL.iter().map(|&number| (number, 0)).collect(),
-            branches: BRANCHES.iter().copied().chain(bits).map(|name| (name, 0)).collect(),
+            branches: BRANCHES.iter().chain(&NOTICES).copied().chain(bits).map(|name| (name, 0)).collect(),
         }
     }
 
@@ -70,11 +100,99 @@ impl Counts {
         }
     }
 
-    /// Counts what the trial did to each set.
-    pub fn changes(&mut self, call: &Call, before: &[Set], after: &[Set]) {
-        for (before, after) in before.iter().zip(after) {
+    /// Counts what the trial did to each set, and to requests and notices.
+    pub fn changes(&mut self, call: &Call, before: &Card, after: &Card) {
+        for (before, after) in before.sets.iter().zip(&after.sets) {
             self.events(before, after);
             self.window(call, before, after);
+        }
+        self.notices(call, before, after);
+    }
+
+    fn notices(&mut self, call: &Call, before: &Card, after: &Card) {
+        let is_new = |(before, after): &(&Set, &Set)| after.listed && !before.listed;
+        let listings = before.sets.iter().zip(&after.sets).filter(is_new).count();
+        if after.notices.masked && !before.notices.masked {
+            self.sent(call, listings, after);
+        } else if listings > 0 && !before.notices.flag {
+            self.withheld(&before.notices);
+        }
+        let has_event = |(before, after): (&Set, &Set)| before.listed && after.events & !before.events != 0;
+        if before.notices.can_send() && listings == 0 && before.sets.iter().zip(&after.sets).any(has_event) {
+            self.branch("event of a listed set sends nothing");
+        }
+        self.notice_commands(call, &before.notices, &after.notices);
+    }
+
+    /// A notice was sent by an item that listed so many sets.
+    fn sent(&mut self, call: &Call, listings: usize, after: &Card) {
+        self.branch(match call.function {
+            Function::Reads { .. } => "notice sent by reads",
+            Function::Writes { .. } => "notice sent by writes",
+            Function::Excursion { .. } => "notice sent by an excursion",
+            Function::Tick { .. } => "notice sent by a tick",
+            _ if call.is_request() => "notice sent by an arriving request",
+            _ if listings == 0 => "notice sent by Set 0Bh",
+            _ => "notice sent by a select D that warns",
+        });
+        if matches!(call.function, Function::Tick { .. }) && listings > 1 {
+            self.branch("notice sent by a tick that lists several sets");
+        }
+        if !after.notices.waiting.is_empty() {
+            self.branch("notice sent while others wait");
+        }
+        if after.sets.iter().all(|set| !set.listed) {
+            self.branch("flag served with no set listed");
+        }
+    }
+
+    /// One thing alone withheld a notice.
+    fn withheld(&mut self, before: &Notices) {
+        match (before.on, before.masked, before.waiting.is_empty()) {
+            (false, false, false) => self.branch("flag raised while off"),
+            (true, true, false) => self.branch("flag raised while masked"),
+            (true, false, true) => self.branch("flag raised with no request"),
+            _ => (),
+        }
+    }
+
+    fn notice_commands(&mut self, call: &Call, before: &Notices, after: &Notices) {
+        if call.is_request() {
+            self.requested(before, after);
+        }
+        match call.list_read() {
+            Some(true) if before.masked && before.flag => self.branch("mask and flag kept by a read of 0Bh with Retain"),
+            Some(false) if before.masked => self.branch("mask lifted by a read of 0Bh"),
+            _ => (),
+        }
+        if call.list_read() == Some(false) && before.flag {
+            self.branch("flag dropped by a read of 0Bh");
+        }
+        if matches!(call.set_features(), Some((EVENT_NOTICES, _))) {
+            self.switched(before, after);
+        }
+        if call.get_features() == Some(EVENT_NOTICES) {
+            self.branch(if before.on { "Get 0Bh while on" } else { "Get 0Bh while off" });
+        }
+    }
+
+    fn requested(&mut self, before: &Notices, after: &Notices) {
+        if !before.on {
+            self.branch("request waits while off");
+        } else if before.masked {
+            self.branch("request waits while masked");
+        }
+        if after.waiting.last().map_or(false, |newest| before.waiting.contains(newest)) {
+            self.branch("request with an identifier that waits");
+        }
+    }
+
+    fn switched(&mut self, before: &Notices, after: &Notices) {
+        if before.on != after.on && before.masked && before.flag {
+            self.branch("mask and flag kept by Set 0Bh");
+        }
+        if before.on && !after.on && !before.waiting.is_empty() {
+            self.branch("requests kept by Set 0Bh off");
         }
     }
 

@@ -2,7 +2,8 @@
 
 use crate::random::Random;
 use model::layout::field::*;
-use model::layout::{header, put_word, word_of, BODY_BYTES, HEADER_BYTES, LAYOUT_NUMBER, MAX_SETS, ROW_BYTES, ROW_WORDS, WORD_BYTES};
+use model::layout::{header, put_word, word_of, BODY_BYTES, HEADER_BYTES, HEADER_WORDS, LAYOUT_NUMBER, MAX_SETS};
+use model::layout::{ROW_BYTES, ROW_WORDS, WORD_BYTES};
 
 /// The bounds of the fields, and their neighbours.
 const LIMITS: [u64; 22] = [
@@ -32,7 +33,7 @@ const LIMITS: [u64; 22] = [
 
 /// Spoils a legal table in some way.
 pub fn damage_table(random: &Random, table: &mut Vec<u8>) {
-    match random.below(20) {
+    match random.below(22) {
         0 => spoil_header(random, table),
         1 => swap_rows(random, table),
         2 => repeat_row(random, table),
@@ -46,6 +47,7 @@ pub fn damage_table(random: &Random, table: &mut Vec<u8>) {
         }
         8 => add_row(random, table),
         9 => spoil_layout(random, table),
+        10..=12 => spoil_notices(random, table),
         _ => spoil_row_word(random, table),
     }
 }
@@ -56,15 +58,35 @@ fn spoil_header(random: &Random, table: &mut [u8]) {
     put_word(table, header::SETS, number);
 }
 
-/// Another number of the layout; or none, as tables had it that began with the number of their sets.
+/// Another number of the layout; or a header of before, which had the number of sets alone, or that and 65,537 before it.
 fn spoil_layout(random: &Random, table: &mut Vec<u8>) {
     if random.once_in(4) {
-        drop(table.drain(..WORD_BYTES));
+        put_word(table, header::LAYOUT, random.pick(&[LAYOUT_NUMBER, LAYOUT_NUMBER - 1]));
+        drop(table.drain(WORD_BYTES * header::ON..HEADER_BYTES));
+        drop(table.drain(..WORD_BYTES * random.pick(&[header::LAYOUT, header::SETS])));
         return;
     }
     let sets = word_of(table, header::SETS);
     let near = random.pick(&[LAYOUT_NUMBER - 1, LAYOUT_NUMBER + 1, LAYOUT_NUMBER ^ 1 << random.below(64)]);
     put_word(table, header::LAYOUT, random.pick(&[near, sets, random.pick(&LIMITS), random.uneven()]));
+}
+
+/// Puts other words into the places of notices and requests; one of both can be enough to make a flag that could be served at once.
+fn spoil_notices(random: &Random, table: &mut [u8]) {
+    for _ in 0..random.between(1, 3) {
+        let place = random.between(header::ON as u64, HEADER_WORDS as u64 - 1) as usize;
+        let old = word_of(table, place);
+        let small = random.below(if place == header::WAITING { 6 } else { 3 });
+        let new = match random.below(8) {
+            0 => random.pick(&LIMITS),
+            1 => old ^ 1 << random.below(64),
+            2 => old.wrapping_add(1),
+            3 => old.wrapping_sub(1),
+            4 => old | 0x1_0000,
+            _ => small,
+        };
+        put_word(table, place, new);
+    }
 }
 
 /// Adds the last row again, with a higher identifier: of 31 sets that is one too many, and else legal.
@@ -157,6 +179,7 @@ fn random_table(random: &Random) -> Vec<u8> {
     let length = random.place(700);
     let mut table = random.bytes(length);
     if length >= HEADER_BYTES && random.once_in(2) {
+        table[..HEADER_BYTES].fill(0);
         put_word(&mut table, header::LAYOUT, LAYOUT_NUMBER);
         put_word(&mut table, header::SETS, random.between(1, 3));
     }

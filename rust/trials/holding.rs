@@ -6,8 +6,7 @@ use crate::damage::{damage_bodies, damage_table};
 use crate::entries::MODEL;
 use crate::random::Random;
 use crate::samples;
-use model::layout::{read_table, table_bytes, BODY_BYTES};
-use model::set::Set;
+use model::layout::{read_table, table_bytes, Card, BODY_BYTES};
 use model::status;
 
 /// How many calls are handed over at once.
@@ -23,15 +22,15 @@ pub struct Trial {
 struct World {
     random: Random,
     table: Vec<u8>,
-    sets: Vec<Set>,
+    card: Card,
 }
 
 impl World {
     fn new(seed: u64) -> World {
         let random = Random::new(seed);
         let table = samples::table(&random);
-        let sets = read_table(&table).expect("set-up makes a legal table");
-        World { random, table, sets }
+        let card = read_table(&table).expect("set-up makes a legal table");
+        World { random, table, card }
     }
 
     fn next_trial(&self) -> Trial {
@@ -73,24 +72,24 @@ impl World {
             _ => 0,
         };
         table.extend(random.bytes(past));
-        Trial { call: samples::call(random, samples::item(random, &self.sets), &table), is_damaged }
+        Trial { call: samples::call(random, samples::item(random, &self.card), &table), is_damaged }
     }
 
     /// Takes over the table that a trial has left, where the trial was given the card's own table or a new set-up.
     fn go_on(&mut self, trial: &Trial, outcome: &Outcome, counts: &mut Counts) {
-        if trial.is_damaged || outcome.status != status::SUCCESS {
+        if trial.is_damaged || status::is_refusal(outcome.status) {
             return;
         }
         let left = outcome.regions.table.content();
-        let sets = read_table(left).expect("the model leaves a legal table");
+        let card = read_table(left).expect("the model leaves a legal table");
         let is_set_up = trial.call.function == Function::SetUp;
         if !is_set_up {
-            counts.changes(&trial.call, &self.sets, &sets);
+            counts.changes(&trial.call, &self.card, &card);
         }
         // A card is renewed by few of the set-ups, so that it has a history.
         if !is_set_up || self.random.once_in(8) {
-            self.table = left[..table_bytes(sets.len())].to_vec();
-            self.sets = sets;
+            self.table = left[..table_bytes(card.sets.len())].to_vec();
+            self.card = card;
         }
     }
 }

@@ -7,7 +7,8 @@ use crate::holding::first_difference;
 use crate::random::Random;
 use crate::samples::{self, Item};
 use model::layout::field::{IDENTIFIER, LISTED, WINDOW};
-use model::layout::{read_body, read_row, read_table, table_bytes, word_of, BODY_BYTES, HEADER_BYTES, MAX_SETS};
+use model::layout::{read_body, read_row, read_table, table_bytes, word_of, write_table, BODY_BYTES, HEADER_BYTES, MAX_SETS};
+use model::notices::Notices;
 use model::set::{Attributes, Set, EVENT_MASK};
 use model::status;
 use std::collections::BTreeMap;
@@ -55,6 +56,14 @@ pub fn hold_lending(name: &str, taker: &mut dyn Takes, seed: u64, calls: u64) ->
 fn new_card(random: &Random) -> Vec<u8> {
     let mut table = vec![0; table_bytes(1)];
     assert_eq!(model::set_up(&mut table, &samples::body(random, random.between(1, 65_535) as u16)), status::SUCCESS);
+    settled(table)
+}
+
+/// The table with its flag raised and notices off. A record that is lent by itself has no header: so no event may change it.
+fn settled(mut table: Vec<u8>) -> Vec<u8> {
+    let mut card = read_table(&table).expect("the model leaves a legal table");
+    card.notices = Notices { flag: true, ..Notices::default() };
+    write_table(&mut table, &card);
     table
 }
 
@@ -66,8 +75,8 @@ fn next_call(random: &Random, table: &mut Vec<u8>) -> Call {
         *table = new_card(random);
     }
     loop {
-        let sets = read_table(table).expect("the model leaves a legal table");
-        let item = samples::item(random, &sets);
+        let card = read_table(table).expect("the model leaves a legal table");
+        let item = samples::item(random, &card);
         if matches!(item, Item::Reads { .. } | Item::Writes { .. } | Item::Excursion { .. }) {
             let lent = if random.once_in(4) { damaged(random, table) } else { table.clone() };
             let call = event(random, item, &lent);
@@ -77,7 +86,7 @@ fn next_call(random: &Random, table: &mut Vec<u8>) -> Call {
             return call;
         }
         // Commands and ticks only bring the set into other windows.
-        *table = MODEL.outcome(&samples::call(random, item, table)).regions.table.content().to_vec();
+        *table = settled(MODEL.outcome(&samples::call(random, item, table)).regions.table.content().to_vec());
     }
 }
 

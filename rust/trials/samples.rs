@@ -4,13 +4,15 @@
 use crate::calls::{Call, Function, Regions};
 use crate::random::Random;
 use model::commands::{
-    COMMAND_BYTES, CONFIGURATION, GET_FEATURES, GET_LOG_PAGE, IDENTIFY, LIST_PAGE, SET_FEATURES, SET_LIST, SET_PAGE, WINDOW,
+    ASYNCHRONOUS_EVENT_REQUEST, COMMAND_BYTES, CONFIGURATION, EVENT_NOTICES, GET_FEATURES, GET_LOG_PAGE, IDENTIFY, LIST_PAGE,
+    NOTICES_BIT, SET_FEATURES, SET_LIST, SET_PAGE, WINDOW,
 };
-use model::layout::{table_bytes, BODY_BYTES, MAX_SETS};
-use model::set::{Quantity, Set, Window, DAY};
+use model::layout::{table_bytes, Card, BODY_BYTES, MAX_SETS};
+use model::notices::Notices;
+use model::set::{Quantity, Set, Window, DAY, EXCEEDED};
 use model::status;
 
-const OPCODES: [u8; 4] = [GET_LOG_PAGE, IDENTIFY, SET_FEATURES, GET_FEATURES];
+const OPCODES: [u8; 5] = [GET_LOG_PAGE, IDENTIFY, SET_FEATURES, GET_FEATURES, ASYNCHRONOUS_EVENT_REQUEST];
 const SAVE: u32 = 1 << 31;
 const RETAIN: u32 = 1 << 15;
 
@@ -91,16 +93,49 @@ fn time(random: &Random, common: u64) -> u64 {
     }
 }
 
-/// An item for a card that holds these sets.
-pub fn item(random: &Random, sets: &[Set]) -> Item {
+/// An item for a card.
+pub fn item(random: &Random, card: &Card) -> Item {
+    let sets = &card.sets;
     let set = &sets[random.place(sets.len())];
-    match random.below(40) {
+    match random.below(45) {
         0..=9 => Item::Reads { set: event_set(random, set), count: event_count(random, set, Quantity::Reads) },
         10..=15 => Item::Writes { set: event_set(random, set), count: event_count(random, set, Quantity::Writes) },
         16 => Item::Excursion { set: event_set(random, set) },
         17..=21 => Item::Tick { milliseconds: milliseconds(random, set) },
+        22..=26 => notice_item(random, card),
         _ => command_item(random, sets),
     }
+}
+
+/// A command about notices, or what they are about. What keeps the next notice from being sent is often done away with, else few
+/// would be sent; and often not, since all that withholds one is wanted too.
+pub fn notice_item(random: &Random, card: &Card) -> Item {
+    let Notices { on, masked, flag, waiting } = &card.notices;
+    let listed = card.sets.iter().find(|set| set.listed);
+    let mut fields = match (random.below(16), listed) {
+        (4..=6, _) if *masked && *flag => set_notices(random, !*on),
+        (0..=6, _) if *masked => lifting_read(random, &card.sets),
+        (0..=6, _) if !*on => set_notices(random, true),
+        (0..=2, _) if waiting.is_empty() => request(random),
+        (0..=6, _) => return listing_item(random, card),
+        (7..=11, Some(set)) if *flag => clearing_read(random, set),
+        (7..=12, _) => set_notices(random, random.once_in(2)),
+        (13, _) => get_notices(random),
+        _ => request(random),
+    };
+    if random.once_in(8) {
+        fields.mutate(random, &card.sets[0]);
+    }
+    Item::Command { command: fields.command(random), data: Vec::new() }
+}
+
+/// What may list a set: a tick that is time up for each of several, or a select D.
+fn listing_item(random: &Random, card: &Card) -> Item {
+    let could_list = |set: &&Set| set.window == Window::D && !set.listed && set.configuration.enev & EXCEEDED != 0;
+    if card.sets.iter().filter(could_list).count() > 1 {
+        return Item::Tick { milliseconds: DAY as u32 };
+    }
+    Item::Command { command: select_ready(random, &card.sets).command(random), data: Vec::new() }
 }
 
 /// An item that in most cases changes this set: it names it, or is the tick that it waits for.
@@ -108,9 +143,7 @@ pub fn telling_item(random: &Random, set: &Set) -> Item {
     let identifier = set.attributes.identifier;
     let command = |fields: Fields| Item::Command { command: fields.command(random), data: configuration(random, set) };
     if set.events != 0 && random.once_in(2) {
-        let mut fields = get_log_page(random, set, SET_PAGE, 512);
-        fields.dwords[0] &= !RETAIN;
-        return command(fields);
+        return command(clearing_read(random, set));
     }
     match set.window {
         Window::N if !set.too_early_for_d() => command(select(random, set, Window::D as u32)),
@@ -208,17 +241,22 @@ fn near_an_edge(random: &Random, set: &Set, quantity: Quantity) -> u64 {
     random.pick(&[edge, edge + 1, edge.saturating_sub(1)])
 }
 
-/// The fields of a command that 01 names.
+/// The fields of a command that 01 and 02 name.
 struct Fields {
     opcode: u8,
+    /// None where it may be any: only a request's is read.
+    identifier: Option<u16>,
     dwords: [u32; 4],
 }
 
 impl Fields {
-    /// The whole command; what 01 does not name holds anything.
+    /// The whole command; what no document names holds anything.
     fn command(&self, random: &Random) -> Vec<u8> {
         let mut command = random.bytes(COMMAND_BYTES);
         command[0] = self.opcode;
+        if let Some(identifier) = self.identifier {
+            command[2..4].copy_from_slice(&identifier.to_le_bytes());
+        }
         for (place, dword) in command[40..56].chunks_exact_mut(4).zip(self.dwords) {
             place.copy_from_slice(&dword.to_le_bytes());
         }
@@ -230,7 +268,7 @@ impl Fields {
         let other = u32::from(other_set(random, set));
         let dword = random.place(4);
         match random.below(9) {
-            0 => self.opcode = random.pick(&[0, 1, 3, 5, 7, 8, 11, random.word() as u8]),
+            0 => self.opcode = random.pick(&[0, 1, 3, 5, 7, 8, 11, 13, random.word() as u8]),
             1 => self.dwords[0] = self.dwords[0] & !0xFF | random.between(0, 0x18) as u32,
             2 => self.dwords[0] |= SAVE,
             3 => self.dwords[0] ^= 1 << random.between(8, 10),
@@ -272,6 +310,7 @@ fn feature(random: &Random, opcode: u8, fid: u8, set: &Set, ignored: u32) -> Fie
     let noise = random.word();
     Fields {
         opcode,
+        identifier: None,
         dwords: [
             u32::from(fid) | noise as u32 & ignored,
             set | (noise >> 16) as u32 & 0xFFFF_0000,
@@ -311,6 +350,44 @@ fn get_feature(random: &Random, set: &Set, fid: u8) -> Fields {
     feature(random, GET_FEATURES, fid, set, 0xFFFF_F800)
 }
 
+/// An Asynchronous Event Request, of which only the identifier is read. Equal ones are wanted, and 0, which is one too.
+fn request(random: &Random) -> Fields {
+    let identifier = random.pick(&[0, 1, 1, u16::MAX, random.word() as u16]);
+    Fields { opcode: ASYNCHRONOUS_EVENT_REQUEST, identifier: Some(identifier), ..anything(random, 0, u32::MAX) }
+}
+
+/// Notices switched on or off; all other bits of CDW11 are random, also those that name a set in other features.
+fn set_notices(random: &Random, on: bool) -> Fields {
+    let mut fields = anything(random, EVENT_NOTICES, 0x7FFF_FF00);
+    fields.opcode = SET_FEATURES;
+    fields.dwords[1] = fields.dwords[1] & !NOTICES_BIT | if on { NOTICES_BIT } else { 0 };
+    fields
+}
+
+fn get_notices(random: &Random) -> Fields {
+    Fields { opcode: GET_FEATURES, ..anything(random, EVENT_NOTICES, 0xFFFF_F800) }
+}
+
+/// Dwords of which only CDW10 is not wholly random: it has the FID, and of its other bits those that do not count are random.
+fn anything(random: &Random, fid: u8, ignored: u32) -> Fields {
+    let dword = || random.word() as u32;
+    Fields { opcode: 0, identifier: None, dwords: [u32::from(fid) | dword() & ignored, dword(), dword(), dword()] }
+}
+
+/// A read of 0Ah with Retain 0, from any offset.
+fn clearing_read(random: &Random, set: &Set) -> Fields {
+    let mut fields = get_log_page(random, set, SET_PAGE, 512);
+    fields.dwords[0] &= !RETAIN;
+    fields
+}
+
+/// A read of 0Bh with Retain 0, from any offset.
+fn lifting_read(random: &Random, sets: &[Set]) -> Fields {
+    let mut fields = get_log_page(random, &sets[0], LIST_PAGE, 72);
+    fields.dwords[0] &= !RETAIN;
+    fields
+}
+
 fn get_log_page(random: &Random, set: &Set, page: u8, page_bytes: u64) -> Fields {
     let count = (dwords(random, page_bytes) - 1) as u32;
     let offset = offset(random, page_bytes);
@@ -319,6 +396,7 @@ fn get_log_page(random: &Random, set: &Set, page: u8, page_bytes: u64) -> Fields
     let set = u32::from(set.attributes.identifier);
     Fields {
         opcode: GET_LOG_PAGE,
+        identifier: None,
         dwords: [u32::from(page) | ignored | retain | count << 16, count >> 16 | set << 16, offset as u32, (offset >> 32) as u32],
     }
 }
@@ -351,6 +429,7 @@ fn identify(random: &Random, set: &Set) -> Fields {
     let noise = random.word();
     Fields {
         opcode: IDENTIFY,
+        identifier: None,
         dwords: [
             u32::from(SET_LIST) | noise as u32 & 0xFFFF_FF00,
             from | (noise >> 16) as u32 & 0xFFFF_0000,
@@ -362,7 +441,7 @@ fn identify(random: &Random, set: &Set) -> Fields {
 
 /// The data of feature 13h; the bytes that hold no field are random.
 fn configuration(random: &Random, set: &Set) -> Vec<u8> {
-    let enev = random.pick(&[0xC007, 0x0007, 0x4001, 0x8000, 0, 1 << random.below(16), random.word() as u16]);
+    let enev = random.pick(&[0xC007, 0xC007, 0x0007, 0x4001, 0x8000, 0, 1 << random.below(16), random.word() as u16]);
     let mut data = random.bytes(512);
     data[0..2].copy_from_slice(&enev.to_le_bytes());
     for (place, quantity) in data[32..56].chunks_exact_mut(8).zip([Quantity::Reads, Quantity::Writes, Quantity::Time]) {

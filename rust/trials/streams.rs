@@ -3,6 +3,7 @@
 
 use crate::calls::{Call, Function, Outcome, Takes};
 use model::layout::{HEADER_BYTES, ROW_BYTES, WORD_BYTES};
+use model::notices::NOTICE_DWORD0;
 use model::tape;
 use std::io::{BufReader, Read, Write};
 use std::ops::Range;
@@ -11,6 +12,9 @@ use std::thread;
 
 /// A command that hands back the part of the answer buffer which was written.
 const COMMAND_PART: u8 = 0x08;
+
+/// What is written before the table and the answer buffer.
+const HEAD_BYTES: usize = 14;
 
 /// What of a table is lent to the program: its words, or to an event only the record of its set.
 #[derive(Clone, Copy, PartialEq, Eq)]
@@ -107,9 +111,9 @@ fn put_call(bytes: &mut Vec<u8>, lent: Lent, kind: u8, call: &Call) {
 fn take_answer(output: &mut impl Read, lent: Lent, kind: u8, call: &Call) -> Outcome {
     let mut read = |bytes: &mut [u8]| output.read_exact(bytes).expect("the program answers every call");
     let mut regions = call.regions.clone();
-    let mut head = [0; 12];
+    let mut head = [0; HEAD_BYTES];
     read(&mut head);
-    let (status, reply) = (u16::from_le_bytes([head[0], head[1]]), &head[4..]);
+    let (status, reply) = (u16::from_le_bytes([head[0], head[1]]), reply_of(&head));
     let length = u32::from_le_bytes([reply[4], reply[5], reply[6], reply[7]]);
     let mut part = vec![0; if kind == COMMAND_PART { length as usize } else { 0 }];
     read(&mut part);
@@ -117,10 +121,21 @@ fn take_answer(output: &mut impl Read, lent: Lent, kind: u8, call: &Call) -> Out
     read(regions.answer.lend());
     assert!(regions.answer.content().starts_with(&part), "the part handed back is not the start of the answer buffer");
     if call.function != Function::SetUp {
-        // 15:8 are zero.
-        for (place, &byte) in regions.reply.lend().iter_mut().zip(reply.iter().chain(&[0; 8])) {
+        for (place, byte) in regions.reply.lend().iter_mut().zip(reply) {
             *place = byte;
         }
     }
     Outcome { status, regions }
+}
+
+/// The reply of the C functions: dword 0, length, and where a notice goes beside the answer, its mark, identifier and dword 0.
+fn reply_of(head: &[u8; HEAD_BYTES]) -> [u8; 16] {
+    let mut reply = [0; 16];
+    reply[..8].copy_from_slice(&head[4..12]);
+    reply[8..10].copy_from_slice(&head[2..4]);
+    reply[10..12].copy_from_slice(&head[12..14]);
+    if head[2..4] != [0, 0] {
+        reply[12..].copy_from_slice(&NOTICE_DWORD0.to_le_bytes());
+    }
+    reply
 }

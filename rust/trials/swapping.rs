@@ -1,5 +1,6 @@
 //! Items that name different sets may change places, and a set's record and answers are those of that set alone: a random history
-//! is played in order, with such neighbours exchanged, and once more for each set on a card of its own.
+//! is played in order, with such neighbours exchanged, and once more for each set on a card of its own. Of notices: "swapping may
+//! move one to the other item".
 
 use crate::calls::{Call, Function};
 use crate::entries::Entries;
@@ -10,7 +11,8 @@ use model::layout::{header, put_word, read_table, word_of, HEADER_BYTES, MAX_SET
 
 /// How many items a card lives through.
 const HISTORY: u64 = 200;
-/// Of a reply only bytes 7:0 are an item's own answer.
+const REPLY_BYTES: usize = 16;
+/// Of a reply bytes 7:0 are an item's own answer, and the rest is the notice beside it.
 const OWN_BYTES: usize = 8;
 
 /// What an item answered.
@@ -18,17 +20,21 @@ const OWN_BYTES: usize = 8;
 struct Answer {
     status: u16,
     data: Vec<u8>,
-    reply: Vec<u8>,
+    reply: [u8; OWN_BYTES],
 }
 
+/// The notice that went beside an answer, if one did.
+type Notice = Option<[u8; REPLY_BYTES - OWN_BYTES]>;
+
 /// Carries out an item on a table; the call has none of its own.
-fn play(entries: &Entries, item: &Call, table: &mut [u8]) -> Answer {
+fn play(entries: &Entries, item: &Call, table: &mut [u8]) -> (Answer, Notice) {
     let regions = &item.regions;
-    let (mut data, mut reply) = (regions.answer.content().to_vec(), regions.reply.content().to_vec());
+    let (mut data, mut reply) = (regions.answer.content().to_vec(), [0xA5; REPLY_BYTES]);
     let inputs = [regions.command.content(), regions.data.content()];
     let status = entries.carry_out(item.function, table, inputs, &mut data, &mut reply);
-    reply.truncate(OWN_BYTES);
-    Answer { status, data, reply }
+    let (own, notice) = reply.split_at(OWN_BYTES);
+    let half = |bytes: &[u8]| bytes.try_into().expect("a reply is cut in two");
+    (Answer { status, data, reply: half(own) }, Some(half(notice)).filter(|notice| *notice != [0; OWN_BYTES]))
 }
 
 fn rows(table: &[u8]) -> impl Iterator<Item = &[u8]> {
@@ -61,22 +67,23 @@ impl History<'_> {
 
     /// Plays an item on the whole card, and on the cards of the sets that it may reach: the one it names, or with a tick all. An
     /// item that names a set is answered there as it is on the whole card.
-    fn play(&mut self, item: &Call) -> Result<Answer, String> {
-        let answer = play(self.entries, item, &mut self.whole);
+    fn play(&mut self, item: &Call) -> Result<(Answer, Notice), String> {
+        let (answer, notice) = play(self.entries, item, &mut self.whole);
         let named = item.set_named();
         let is_tick = matches!(item.function, Function::Tick { .. });
         for (_, own) in self.alone.iter_mut().filter(|(set, _)| is_tick || named == Some(*set)) {
-            if play(self.entries, item, own) != answer {
+            if play(self.entries, item, own).0 != answer {
                 return Err("a set alone answers something else".into());
             }
         }
         if rows(&self.whole).zip(&self.alone).any(|(row, (_, own))| row != &own[HEADER_BYTES..]) {
             return Err("a set alone has another record".into());
         }
-        Ok(answer)
+        Ok((answer, notice))
     }
 
-    /// Plays two items that name different sets, in order and exchanged.
+    /// Plays two items that name different sets, in order and exchanged. The notices that they give one after the other are the
+    /// same; which of the two items gives one may change.
     fn play_pair(&mut self, items: [&Call; 2], met: &mut Met) -> Result<(), String> {
         let before = self.whole.clone();
         let first = self.play(items[0])?;
@@ -84,10 +91,17 @@ impl History<'_> {
         let second = self.play(items[1])?;
         met.changing += u64::from(before != between && between != self.whole);
         met.listing += u64::from(listed(&before) < listed(&between) || listed(&between) < listed(&self.whole));
-        let (entries, exchanged) = (self.entries, &mut self.exchanged);
-        if play(entries, items[1], exchanged) != second || play(entries, items[0], exchanged) != first {
+        let other_second = play(self.entries, items[1], &mut self.exchanged);
+        let other_first = play(self.entries, items[0], &mut self.exchanged);
+        if other_second.0 != second.0 || other_first.0 != first.0 {
             return Err("exchanged, an item answers something else".into());
         }
+        let notices: Vec<_> = first.1.iter().chain(&second.1).collect();
+        if !notices.iter().copied().eq(other_second.1.iter().chain(&other_first.1)) {
+            return Err("exchanged, two items give other notices".into());
+        }
+        met.noticed += u64::from(!notices.is_empty());
+        met.moved += u64::from(first.1 != other_first.1);
         self.same_table()
     }
 
@@ -118,6 +132,10 @@ struct Met {
     changing: u64,
     /// Pairs of which one lists a set.
     listing: u64,
+    /// Pairs of which one gives a notice.
+    noticed: u64,
+    /// Pairs whose notice goes to the other item where they are exchanged.
+    moved: u64,
 }
 
 impl Met {
@@ -126,11 +144,22 @@ impl Met {
         println!("{:>9}  pairs exchanged", self.pairs);
         println!("{:>9}  of which both items change the table", self.changing);
         println!("{:>9}  of which one lists a set", self.listing);
+        println!("{:>9}  of which one gives a notice", self.noticed);
+        println!("{:>9}  of which the other gives it where they are exchanged", self.moved);
+    }
+
+    /// Whether enough of the pairs did something. Seldom do both items of a pair list a set, so that a notice moves.
+    fn is_enough(&self, items: u64) -> bool {
+        self.changing >= items / 10
+            && self.listing >= items / 100
+            && self.noticed >= items / 1_000
+            && self.moved >= items / 10_000
     }
 }
 
 /// Plays histories of at least so many items. Answers whether the order made no difference, and enough of the pairs did something:
-/// for each ten items one pair of which both change the table, and for each hundred one that lists a set.
+/// for each ten items one pair of which both change the table, for each hundred one that lists a set, for each thousand one that
+/// gives a notice, and for each ten thousand one whose notice moves.
 pub fn hold_swapping(name: &str, entries: &Entries, seed: u64, items: u64) -> bool {
     println!("{}: neighbours exchanged, and each set alone: seed {}, {} items", name, seed, items);
     let random = Random::new(seed);
@@ -146,7 +175,7 @@ pub fn hold_swapping(name: &str, entries: &Entries, seed: u64, items: u64) -> bo
         }
     }
     met.print();
-    let enough = met.changing >= items / 10 && met.listing >= items / 100;
+    let enough = met.is_enough(items);
     println!("{}", if enough { "no difference" } else { "no difference, but some count is under the floor" });
     enough
 }
@@ -164,11 +193,14 @@ fn new_table(random: &Random) -> Vec<u8> {
 
 /// An item that names a set with one that names another, or else the item by itself.
 fn step(random: &Random, history: &mut History, met: &mut Met) -> Result<(), String> {
-    let sets = read_table(&history.whole).ok_or("the table is not legal any more")?;
-    let (one, other) = (random.place(sets.len()), random.place(sets.len()));
+    let card = read_table(&history.whole).ok_or("the table is not legal any more")?;
+    let (one, other) = (random.place(card.sets.len()), random.place(card.sets.len()));
     let next = |slot: usize| {
-        let any = random.once_in(3);
-        let item = if any { samples::item(random, &sets) } else { samples::telling_item(random, &sets[slot]) };
+        let item = match random.below(20) {
+            0..=4 => samples::item(random, &card),
+            5..=7 if !card.notices.can_send() => samples::notice_item(random, &card),
+            _ => samples::telling_item(random, &card.sets[slot]),
+        };
         samples::call(random, item, &[])
     };
     let first = next(one);

@@ -8,8 +8,9 @@
  *   card TABLE excursion SET
  *   card TABLE serve               answer commands on stdin and stdout, as wire.h says
  *
- * All but serve print the status, four hex digits, and end with 0 where it is 0000, else with 1. The file is written only after
- * a call that succeeded. 2 is the end of a run that went wrong outside the card.
+ * All but serve print the status, four hex digits, and where a notice goes beside it a line as bin/replay has it: the identifier of
+ * the request that it completes, and dword 0. They end with 0 where the status is 0000, else with 1. The file is written only after
+ * a call that was not refused. 2 is the end of a run that went wrong outside the card.
  */
 #include <errno.h>
 #include <stdbool.h>
@@ -124,7 +125,7 @@ static uint16_t set_up(struct card *card, int count, char **sets)
     return card_set_up(card->table, card->length, bodies, (size_t)count * CARD_BODY_BYTES);
 }
 
-/* Media events and ticks. What they say beside their status is not shown yet. */
+/* Media events and ticks */
 
 static uint8_t tick_answer[CARD_ANSWER_BYTES];
 static uint8_t event_reply[CARD_REPLY_BYTES];
@@ -173,10 +174,11 @@ static void say(const uint8_t *bytes, size_t count)
 static void answer(uint16_t status, const uint8_t *card_reply, const uint8_t *data)
 {
     uint8_t reply[REPLY_BYTES];
-    size_t count = get_number(card_reply + 4, 4);
+    size_t count = get_number(card_reply + CARD_REPLY_LENGTH, 4);
     put_number(reply + REPLY_STATUS, 2, status);
-    put_number(reply + REPLY_DWORD0, 4, get_number(card_reply, 4));
+    put_number(reply + REPLY_DWORD0, 4, get_number(card_reply + CARD_REPLY_DWORD_0, 4));
     put_number(reply + REPLY_DATA, 4, count);
+    memcpy(reply + REPLY_NOTICE, card_reply + CARD_REPLY_NOTICE, CARD_REPLY_BYTES - CARD_REPLY_NOTICE);
     say(reply, sizeof reply);
     say(data, count);
     fflush(stdout);
@@ -231,6 +233,13 @@ static const struct action *action_named(const char *name, int arguments)
     give_up("no such action, or not its arguments", name);
 }
 
+static void print_notice(const uint8_t *card_reply)
+{
+    if (card_reply[CARD_REPLY_NOTICE])
+        printf("%04X %08lX\n", (unsigned)get_number(card_reply + CARD_REPLY_NOTICE_ID, 2),
+               (unsigned long)get_number(card_reply + CARD_REPLY_NOTICE_DWORD_0, 4));
+}
+
 static int act(struct card *card, const char *name, int count, char **arguments)
 {
     const struct action *action = action_named(name, count);
@@ -240,6 +249,7 @@ static int act(struct card *card, const char *name, int count, char **arguments)
     if (!CARD_IS_REFUSAL(status))
         store(card);
     printf("%04X\n", status);
+    print_notice(event_reply);
     return CARD_IS_REFUSAL(status) ? 1 : 0;
 }
 

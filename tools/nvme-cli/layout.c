@@ -1,7 +1,7 @@
 /*
- * Document 01's byte numbers against libnvme's structures.
+ * Document 01's byte numbers against libnvme's structures, and the numbers of card.h that NVMe has given against libnvme's.
  *
- * At compile time: where each field lies. At run time, against pages that nvme-cli took from the card: what each field holds.
+ * At compile time: where each field lies, and the numbers. At run time, against pages that nvme-cli took from the card: what each field holds.
  *
  *   layout config         prints the data of feature 13h, as libnvme lays it out
  *   layout check FOLDER   compares the pages in FOLDER with what tests/libnvme-layout put into the card
@@ -14,6 +14,8 @@
 #include <stddef.h>
 #include <stdio.h>
 #include <string.h>
+
+#include "../../include/card.h"
 
 /* The field lies in bytes last:first, as 01 writes it. */
 #define BYTES(type, field, last, first)                                                                      \
@@ -64,6 +66,14 @@ BYTES(nvme_plm_config, dtwintt, 55, 48);
 /* Identify 01h: the maximum set identifier */
 SIZE(nvme_id_ctrl, 4096);
 BYTES(nvme_id_ctrl, nsetidmax, 339, 338);
+
+/* requests and notices: opcode, feature and its bit, the status of one request too many, and dword 0 of a notice */
+#define NUMBER(ours, theirs) _Static_assert((ours) == (theirs), #ours " is another number in libnvme")
+NUMBER(CARD_ASYNC_EVENT_REQUEST, nvme_admin_async_event);
+NUMBER(CARD_FEATURE_EVENTS, NVME_FEAT_FID_ASYNC_EVENT);
+NUMBER(CARD_EVENTS_PREDICTABLE_LATENCY, NVME_FEAT_AE_PLA_MASK << NVME_FEAT_AE_PLA_SHIFT);
+NUMBER(CARD_TOO_MANY_REQUESTS, NVME_SCT_CMD_SPECIFIC << NVME_SCT_SHIFT | NVME_SC_ASYNC_LIMIT);
+NUMBER(CARD_NOTICE, NVME_LOG_LID_PREDICTABLE_LAT_AGG << 16 | NVME_AER_NOTICE_PL_EVENT << 8 | NVME_AER_NOTICE);
 
 /* The pages as they must be, made field by field; all else in them is zero, which 01 asks for too. */
 

@@ -15,6 +15,7 @@
 #include <linux/nvme_ioctl.h>
 #include <stdarg.h>
 #include <stdbool.h>
+#include <stdio.h>
 #include <stdlib.h>
 #include <string.h>
 #include <sys/ioctl.h>
@@ -95,7 +96,8 @@ static bool hear(void *bytes, size_t count)
     return count == 0 || recv(card_socket, bytes, count, MSG_WAITALL) == (ssize_t)count;
 }
 
-/* Commands. Both forms of the passthru structure are alike up to the place of the result. */
+/* Commands. Both forms of the passthru structure are alike up to the place of the result. Its reserved field lies where an entry has
+ * the command identifier, which a kernel chooses: here nvme-cli may, so that a request which waits can be told from others. */
 
 static void put_entry(uint8_t *entry, const struct nvme_passthru_cmd64 *c)
 {
@@ -103,6 +105,7 @@ static void put_entry(uint8_t *entry, const struct nvme_passthru_cmd64 *c)
     memset(entry, 0, CARD_COMMAND_BYTES);
     put_number(entry, 1, c->opcode);
     put_number(entry + 1, 1, c->flags);
+    put_number(entry + 2, 2, c->rsvd1);
     put_dword(entry, 1, c->nsid);
     put_dword(entry, 2, c->cdw2);
     put_dword(entry, 3, c->cdw3);
@@ -115,6 +118,15 @@ static uint32_t length_if(const struct nvme_passthru_cmd64 *c, unsigned directio
 {
     uint32_t length = c->data_len < WIRE_DATA_BYTES ? c->data_len : WIRE_DATA_BYTES;
     return (c->opcode & 3) == direction ? length : 0;
+}
+
+/* nvme-cli has no place for a notice, which completes another command than the one it waits for: so it is told beside. */
+static void tell_notice(const uint8_t *notice)
+{
+    const uint8_t *id = notice + CARD_REPLY_NOTICE_ID - CARD_REPLY_NOTICE;
+    const uint8_t *dword0 = notice + CARD_REPLY_NOTICE_DWORD_0 - CARD_REPLY_NOTICE;
+    if (*notice)
+        dprintf(STDERR_FILENO, "%04X %08lX\n", (unsigned)get_number(id, 2), (unsigned long)get_number(dword0, 4));
 }
 
 /* The command's status, or -1 where the card's process is gone. */
@@ -132,6 +144,7 @@ static int ask_card(const struct nvme_passthru_cmd64 *c, uint32_t *dword0)
         errno = EIO;
         return -1;
     }
+    tell_notice(reply + REPLY_NOTICE);
     *dword0 = (uint32_t)get_number(reply + REPLY_DWORD0, 4);
     return (int)get_number(reply + REPLY_STATUS, 2);
 }

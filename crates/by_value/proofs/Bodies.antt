@@ -16,6 +16,8 @@ use Rattle.record.specs.declared.Attributes.{Attributes}
 use Rattle.record.specs.declared.Record.{Record}
 use Rattle.record.specs.Legal.{inRange, legalAttributes, legalRecord}
 use Rattle.replies.proofs.Rows.{passed}
+use Rattle.desk.specs.Desk.{newDesk}
+use Rattle.desk.specs.Words.{deskWords}
 use Rattle.table.specs.Layout.{wordsOf}
 use Rattle.table.specs.Card.{Card, layoutNumber, header}
 use Rattle.table.specs.Table.{rowStart, put, recordsOf, legalSets, legalTable, writtenFrom, writtenRows, written, maxSets}
@@ -95,12 +97,12 @@ module _ (bytes ws : List ℕ) (s : ℕ) (e : s ≡ setUpStatus bytes (length ws
   unfolding setUp
   set-up-done z vs h = record { table = rw (← e, eq-eqb s 0 z) h; status = rw (← e, eq-eqb s 0 z) z }
 
-pub headed-length : (bytes ws us : List ℕ) → us ≡ sets ws 0 (layoutNumber ∷ bodies bytes ∷ []) → length us ≡ length ws
-headed-length bytes ws us e = ap length e ∙ length-sets ws 0 (layoutNumber ∷ bodies bytes ∷ [])
+pub headed-length : (bytes ws us : List ℕ) → us ≡ sets ws 0 (layoutNumber ∷ bodies bytes ∷ deskWords newDesk) → length us ≡ length ws
+headed-length bytes ws us e = ap length e ∙ length-sets ws 0 (layoutNumber ∷ bodies bytes ∷ deskWords newDesk)
 
 -- the header and then the rows make it
 pub headed-rows :
-    (bytes ws us vs : List ℕ) → legalSets 0 (newSets bytes) ≡ true → us ≡ sets ws 0 (layoutNumber ∷ bodies bytes ∷ [])
+    (bytes ws us vs : List ℕ) → legalSets 0 (newSets bytes) ≡ true → us ≡ sets ws 0 (layoutNumber ∷ bodies bytes ∷ deskWords newDesk)
     → vs ≡ writtenRows us (map keptRecord (attributesFrom bytes 0 (bodies bytes))) → vs ≡ newTable bytes ws
 unfolding written newSets
 headed-rows bytes ws us vs h eu ev =

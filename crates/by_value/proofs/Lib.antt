@@ -1,4 +1,5 @@
 pub mod Passed
+pub mod Told
 pub mod OnOneSet
 pub mod NamedCommands
 pub mod WholeCard

@@ -35,7 +35,7 @@ use Rattle.replies.proofs.Answering.{refused-reply}
 pub answered-bad : (ws : List ℕ) (i : Item) (before : List ℕ) (x : Reply) → legalTable ws ≡ false → x ≡ refusing badTable → Answered ws i before x ws before
 answered-bad ws i before x e ex =
     let d = step-bad ws i e in
-    record { table = rw d; reply = rw (d, ex) (refused-reply badTable before) }
+    record { table = rw d; reply = rw (d, ex) (refused-reply badTable before); notice = rw (d, ex) }
 
 module _ (ws : List ℕ) (k : Kind) (c : Command) (given before : List ℕ) (e : Entry) (known : e ≡ enterIn ws (namedBy k c))
     (i : Item) (m : meaning i ≡ The (namedBy k c) (named k c given (length before))) where
@@ -47,7 +47,7 @@ module _ (ws : List ℕ) (k : Kind) (c : Command) (given before : List ℕ) (e :
   named-unknown x s q es ex =
       let f = is-unknown ws (namedBy k c) (sym known ∙ q) in
       let d = step-unknown ws i (namedBy k c) (named k c given (length before)) m (f .0) (f .1) (unknown-not-zero c) in
-      record { table = rw d; reply = rw (d, ex, es) (refused-reply _ before) }
+      record { table = rw d; reply = rw (d, ex, es) (refused-reply _ before); notice = rw (d, ex) }
 
   module _ (slot : Slot) (q : e ≡ Here slot) (x : Reply) (words buffer : List ℕ) (o : OnSet ws (slot .0) k c given before x words buffer) where
     rec : Record
@@ -58,11 +58,11 @@ module _ (ws : List ℕ) (k : Kind) (c : Command) (given before : List ℕ) (e :
     by-status true t =
         let f = is-here ws (namedBy k c) slot (sym known ∙ q) in
         let d = step-done ws i (namedBy k c) (named k c given (length before)) m (f .0) (slot .0) (f .1) (eqb-true _ 0 t) in
-        record { table = rw d (rw t at (o .table)); reply = rw d (rw t at (o .reply)) }
+        record { table = rw d (rw t at (o .table)); reply = rw d (rw t at (o .reply)); notice = rw d (rw t at (o .notice)) }
     by-status false t =
         let f = is-here ws (namedBy k c) slot (sym known ∙ q) in
         let d = step-late ws i (namedBy k c) (named k c given (length before)) m (f .0) (slot .0) (f .1) _ refl (eqb-false _ 0 t) in
-        record { table = rw d (rw t at (o .table)); reply = rw d (rw t at (o .reply)) }
+        record { table = rw d (rw t at (o .table)); reply = rw d (rw t at (o .reply)); notice = rw d (rw t at (o .notice)) }
 
     pub named-here : Answered ws i before x words buffer
     named-here = by-status _ refl

@@ -13,11 +13,14 @@ use Rattle.octets.specs.Octets.{padded}
 use Rattle.octets.proofs.Runs.{padded-whole}
 use Rattle.octets.proofs.Pages.{length-place}
 use Rattle.record.specs.declared.Record.{Record}
+use Rattle.record.specs.Event.{newlyListed}
+use Rattle.replies.specs.declared.Notice.{Notice}
 use Rattle.replies.specs.declared.Reply.{Reply}
-use Rattle.replies.specs.Answers.{Answer, answered, refused, refusing, giving, Replied}
-use Rattle.replies.proofs.Answering.{granting, refused-reply}
+use Rattle.replies.specs.Answers.{Answer, answered, refused, refusing, giving, besideOf, Replied}
+use Rattle.replies.proofs.Answering.{granting, refused-reply, with-notice}
+use Rattle.desk.specs.Desk.{settle}
 use Rattle.table.specs.Layout.{wordsOf, recordOf}
-use Rattle.table.specs.Table.{row, put}
+use Rattle.table.specs.Table.{row, put, deskAt, Tells}
 use Rattle.pages.specs.Features.{featureSize, configFields, configPage}
 use Rattle.pages.specs.Latency.{latencySize, latencyFields, latencyPage}
 use Rattle.commands.specs.declared.Command.{Command}
@@ -28,6 +31,7 @@ use Rattle.commands.specs.Shapes.{kindOf, needsOut}
 use Rattle.steps.specs.Commanded.{modeNo, answerOf}
 use Rattle.by_value.specs.OnSet.{statusOn, afterOn, answerOn, OnSet}
 use Rattle.by_value.proofs.Passed.{Fine, fine}
+use Rattle.by_value.proofs.Told.{told-put}
 
 pub latency-long : (r : Record) → length (latencyPage r) ≡ latencySize
 unfolding latencyPage
@@ -70,17 +74,20 @@ module _ (ws : List ℕ) (slot : ℕ) (k : Kind) (c : Command) (given before : L
       record {
         table = rw t;
         reply = rw ex (subst (λ (y : Answer). Replied y before (refusing s) before) a (refused-reply s before));
+        notice = rw (ex, t);
       }
 
+  -- the record after it, stored; its reply; and then the desk told of it, with the notice beside that reply
   pub on-done :
-      (r′ : Record) (words buffer : List ℕ) → s ≡ 0 → r′ ≡ afterOn k c given rec → words ≡ put ws slot (wordsOf r′)
-      → Replied (answerOf k c rec) before x buffer → OnSet ws slot k c given before x words buffer
-  on-done r′ words buffer z e h p =
-      let t : eqb (statusOn k c (length given) (length before) (recordOf (row ws slot))) 0 ≡ true = eq-eqb _ 0 (sym status-is ∙ z) in
-      let a : answerOf k c rec ≡ answerOn k c given (length before) (recordOf (row ws slot)) = rw t (ap (answerOf k c) er) in
-      let b : afterOn k c given rec ≡ afterOn k c given (recordOf (row ws slot))
-      = ap (afterOn k c given) er in
+      (r′ : Record) (us words buffer : List ℕ) (y : Reply) (new : Bool) (n : Notice) → s ≡ 0 → r′ ≡ afterOn k c given rec
+      → us ≡ put ws slot (wordsOf r′) → Replied (answerOf k c rec) before y buffer → new ≡ newlyListed rec r′
+      → Tells us (settle new (deskAt us)) words n → x ≡ besideOf y n → OnSet ws slot k c given before x words buffer
+  on-done r′ us words buffer y new n z e h p en t ex =
+      let q : eqb (statusOn k c (length given) (length before) (recordOf (row ws slot))) 0 ≡ true = eq-eqb _ 0 (sym status-is ∙ z) in
+      let a : answerOf k c rec ≡ answerOn k c given (length before) (recordOf (row ws slot)) = rw q (ap (answerOf k c) er) in
+      let d = rw (e, er) at (told-put ws us words new n t slot rec r′ h en) in
       record {
-        table = h ∙ rw t (ap (λ (y : Record). put ws slot (wordsOf y)) (e ∙ b));
-        reply = subst (λ (y : Answer). Replied y before x buffer) a p;
+        table = rw q (d .desk);
+        reply = rw ex (subst (λ (b : Answer). Replied b before (besideOf y n) buffer) a (with-notice _ before buffer y n p));
+        notice = rw (ex, q) (d .sent);
       }

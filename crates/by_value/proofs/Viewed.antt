@@ -1,77 +1,120 @@
 -- Commands that name no set, from the step to the words and the answer buffer.
-use mathlib.Core.Path.{_≡_, refl, sym, ap, subst, _∙_}
-use mathlib.Core.Bool.{Bool, true, false}
-use mathlib.Core.List.{List, [], _∷_, _++_}
+use mathlib.Core.Path.{_≡_, refl, sym, _∙_}
+use mathlib.Core.Bool.{Bool, true, false, not, _&&_}
+use mathlib.Core.List.{List, []}
 use Prim.Native.Nat.{ℕ, _≤_}
-use borrow.Author.Tests.{eq-eqb, ne-eqb}
+use borrow.Author.Tests.{eqb-true, eqb-false}
+use lib.Dec.{eqb}
 use lib.ListN.{length}
 use lib.Seq.{sets}
+use Rattle.octets.specs.Choice.{if_then_else_}
 use Rattle.octets.proofs.Pages.{length-place}
+use Rattle.replies.specs.declared.Notice.{Notice}
+use Rattle.replies.specs.declared.Notice.the-variants.{Unsent}
 use Rattle.replies.specs.declared.Reply.{Reply}
 use Rattle.replies.specs.Status.{firstOf}
-use Rattle.replies.specs.Answers.{Answer, answered, granted, refused, refusing, giving, Replied}
-use Rattle.replies.proofs.Answering.{granting, refused-reply}
-use Rattle.table.specs.Table.{recordsOf, legalTable, written}
-use Rattle.table.proofs.LegalTables.{legal-known}
-use Rattle.table.proofs.Written.{written-own}
+use Rattle.replies.specs.Answers.{saying, answered, refused, replying, refusing, giving, Replied}
+use Rattle.replies.proofs.Answering.{granting, one-outcome, refused-reply, no-data, waits-reply}
+use Rattle.desk.specs.Desk.{lifted, settle}
+use Rattle.table.specs.Table.{deskAt, withDesk, DeskThere, Tells, legalTable}
+use Rattle.table.proofs.LegalTables.{legal-known, desk-there}
+use Rattle.table.proofs.Desks.{quiet-tells}
+use Rattle.table.proofs.Written.{written-desk}
 use Rattle.pages.specs.Identify.{identifySize, identifyFields, shown, identifyPage}
 use Rattle.record.specs.declared.Attributes.{Attributes}
-use Rattle.record.specs.declared.Record.{Record}
-use Rattle.record.specs.Parts.{idOf}
 use Rattle.commands.specs.declared.Command.{Command}
 use Rattle.commands.specs.declared.Kind.{Kind}
-use Rattle.steps.specs.Items.{Card, Item, command, Nobody, The}
-use Rattle.commands.specs.Commands.{commandIn}
+use Rattle.commands.specs.declared.Kind.the-variants.{GetNotices, ReadAggregate, Identify}
+use Rattle.commands.specs.Commands.{commandIn, retain}
 use Rattle.commands.specs.Shapes.{kindOf, isNamed, namedBy}
-use Rattle.commands.specs.StatusTable.{earlyLines, shortLine}
-use Rattle.steps.specs.Commanded.{doing, askedOf, named, viewed, meaningBy, commandMeaning}
+use Rattle.steps.specs.Items.{Item, command, Nobody, The}
+use Rattle.steps.specs.Commanded.{aggregateOf, setListOf, noticesNo, doing, askedOf, named, viewLines, viewed, meaningBy, commandMeaning}
 use Rattle.steps.specs.Meanings.{meaning}
-use Rattle.steps.specs.Card.{concerns, after, answer}
+use Rattle.steps.specs.Card.{refusalOf, after, answer}
 use Rattle.steps.specs.Words.{cardOf, Answered}
-use Rattle.octets.proofs.Lists.{map-fixed}
-use Rattle.steps.proofs.ItemShapes.{touched-not}
-use Rattle.steps.proofs.StepOnWords.{step-legal}
+use Rattle.steps.proofs.AtDesk.{nobody-sets, told-nobody}
+use Rattle.steps.proofs.StepOnWords.{step-legal, step-refused}
+use Rattle.by_value.proofs.EventsAndTicks.{turned-down}
+
+-- what the rows of the status table say of it, on this card
+abbrev pub viewStatus : Kind → Command → ℕ → ℕ → List ℕ → ℕ
+viewStatus k c given room ws = firstOf (viewLines k c given room (length (deskAt ws .waiting)))
 
 module _ (ws : List ℕ) (i : Item) (k : Kind) (c : Command) (given : ℕ) (before : List ℕ)
-    (m : meaning i ≡ Nobody (viewed k c given (length before))) (e : legalTable ws ≡ true) where
-  nobody : (n id : ℕ) → concerns n id i ≡ false
-  unfolding concerns
-  nobody n id = rw m
+    (m : meaning i ≡ Nobody (viewed k c given (length before))) (e : legalTable ws ≡ true) (s : ℕ) (es : s ≡ viewStatus k c given (length before) ws) where
+  refusal-is : refusalOf (cardOf ws) i ≡ s
+  unfolding refusalOf
+  refusal-is = rw m (sym es)
 
-  same-sets : after (cardOf ws) i .sets ≡ recordsOf ws
-  same-sets = map-fixed _ (recordsOf ws) (λ j r q. touched-not _ i r (nobody _ (idOf r)))
+  pub viewed-refused : (x : Reply) → (s ≡ 0 → ⊥) → x ≡ refusing s → Answered ws i before x ws before
+  viewed-refused x n ex = turned-down ws i before s x (step-refused ws i s e refusal-is n) ex
 
-  answer-is : answer (cardOf ws) i ≡ answered (firstOf (earlyLines c ++ shortLine k c given (length before) ∷ [])) 0 (askedOf k c (doing k .view c (cardOf ws)))
+  answer-is : s ≡ 0 → answer (cardOf ws) i ≡ saying (doing k .status) (doing k .word (cardOf ws)) (askedOf k c (doing k .view c (cardOf ws)))
   unfolding answer
-  answer-is = rw m
+  answer-is z = rw (m, ← es, z)
 
-  -- its page, handed out with its status
-  pub viewed-as :
-      (s : ℕ) (bytes : List ℕ) (x : Reply) (buffer : List ℕ) → s ≡ firstOf (earlyLines c ++ shortLine k c given (length before) ∷ [])
-      → bytes ≡ askedOf k c (doing k .view c (cardOf ws)) → Replied (answered s 0 bytes) before x buffer → Answered ws i before x ws buffer
-  viewed-as s bytes x buffer es eb p =
+  -- carried out: the desk after it, and its reply, with the notice that goes out
+  pub viewed-done :
+      (vs : List ℕ) (n : Notice) (x : Reply) (buffer : List ℕ) → s ≡ 0 → Tells ws (settle false (doing k .desk c (deskAt ws))) vs n
+      → Replied (saying (doing k .status) (doing k .word (cardOf ws)) (askedOf k c (doing k .view c (cardOf ws)))) before x buffer → x .notice ≡ n
+      → Answered ws i before x vs buffer
+  viewed-done vs n x buffer z t p ex =
       let d = step-legal ws i e in
-      let a : answered s 0 bytes ≡ answer (cardOf ws) i = rw (es, eb) (sym answer-is) in
-      record {
-        table = rw d (sym (ap (λ (rs : List Record). written ws (record { sets = rs })) same-sets ∙ written-own ws (legal-known ws e)));
-        reply = rw d (subst (λ (y : Answer). Replied y before x buffer) a p);
-      }
+      let w = written-desk ws (legal-known ws e) (after (cardOf ws) i) (nobody-sets i _ m (cardOf ws)) in
+      let o = told-nobody i _ m (cardOf ws) (refusal-is ∙ z) in
+      record { table = rw (d, w, o) (t .desk); reply = rw (d, answer-is z) p; notice = rw (d, o) (ex ∙ t .sent) }
 
-  pub viewed-refused :
-      (s : ℕ) (x : Reply) → s ≡ firstOf (earlyLines c ++ shortLine k c given (length before) ∷ []) → (s ≡ 0 → ⊥) → x ≡ refusing s
-      → Answered ws i before x ws before
-  viewed-refused s x es n ex =
-      let a : refused s ≡ answered s 0 (askedOf k c (doing k .view c (cardOf ws))) = rw (ne-eqb s 0 n) in
-      viewed-as s _ x before es refl (rw ex (subst (λ (y : Answer). Replied y before (refusing s) before) a (refused-reply s before)))
+  -- without dword 0 and data
+  pub viewed-told :
+      (vs : List ℕ) (n : Notice) (x : Reply) → s ≡ 0 → Tells ws (settle false (doing k .desk c (deskAt ws))) vs n
+      → doing k .word (cardOf ws) ≡ 0 → askedOf k c (doing k .view c (cardOf ws)) ≡ [] → x ≡ replying (doing k .status) 0 0 n
+      → Answered ws i before x vs before
+  viewed-told vs n x z t w v ex = viewed-done vs n x before z t (rw (ex, w, v) (waits-reply (doing k .status) before n)) (rw ex)
 
-  -- the whole page, written where the answer starts
-  pub viewed-whole :
-      (s n : ℕ) (page : List ℕ) (x : Reply) (buffer : List ℕ) → s ≡ firstOf (earlyLines c ++ shortLine k c given (length before) ∷ []) → s ≡ 0
-      → page ≡ askedOf k c (doing k .view c (cardOf ws)) → n ≡ length page → n ≤ length before → buffer ≡ sets before 0 page → x ≡ giving 0 n
-      → Answered ws i before x ws buffer
-  viewed-whole s n page x buffer es z ep en h eb ex =
-      let a : granted 0 page ≡ answered s 0 page = rw (eq-eqb s 0 z) in
-      viewed-as s page x buffer es ep (rw ex (subst (λ (y : Answer). Replied y before (giving 0 n) buffer) a (granting n 0 page before buffer en h eb)))
+-- ---- page 0Bh, which lifts the mask and drops the flag unless Retain is set
+
+lifts-tells :
+    (ws vs : List ℕ) → DeskThere ws → (b : Bool) → vs ≡ (if not b then withDesk ws (lifted (deskAt ws)) else ws)
+    → Tells ws (settle false (if b then deskAt ws else lifted (deskAt ws))) vs Unsent
+lifts-tells ws vs t true h = rw h (quiet-tells ws t)
+lifts-tells ws vs t false h = record { desk = h; sent = refl }
+
+module _ (ws : List ℕ) (i : Item) (c : Command) (given : ℕ) (before : List ℕ) (m : meaning i ≡ Nobody (viewed ReadAggregate c given (length before)))
+    (e : legalTable ws ≡ true) (s : ℕ) (es : s ≡ viewStatus ReadAggregate c given (length before) ws) (bytes : List ℕ) (x : Reply) (buffer vs : List ℕ)
+    (eb : bytes ≡ askedOf ReadAggregate c (aggregateOf c (cardOf ws))) (p : Replied (answered s 0 bytes) before x buffer) (ex : x .notice ≡ Unsent)
+    (ev : vs ≡ (if eqb s 0 && not (retain c) then withDesk ws (lifted (deskAt ws)) else ws)) where
+  by-status : (b : Bool) → eqb s 0 ≡ b → Answered ws i before x vs buffer
+  by-status true t =
+      viewed-done ws i ReadAggregate c given before m e s es vs Unsent x buffer (eqb-true s 0 t)
+      (lifts-tells ws vs (desk-there ws (legal-known ws e)) (retain c) (rw t at ev)) (rw (t, eb) at p) ex
+  by-status false t =
+      let f = one-outcome (refused s) before buffer before x (refusing s) (rw t at p) (refused-reply s before) ex in
+      let v : vs ≡ ws = rw t at ev in
+      rw (v, f .1) (viewed-refused ws i ReadAggregate c given before m e s es x (eqb-false s 0 t) (f .0))
+
+  pub aggregate-read : Answered ws i before x vs buffer
+  aggregate-read = by-status (eqb s 0) refl
+
+-- ---- Identify: the whole page, written where the answer starts
+
+pub identified :
+    (ws : List ℕ) (i : Item) (c : Command) (given : ℕ) (before : List ℕ) → meaning i ≡ Nobody (viewed Identify c given (length before))
+    → legalTable ws ≡ true → (s : ℕ) → s ≡ viewStatus Identify c given (length before) ws → (n : ℕ) (page : List ℕ) (x : Reply) (buffer : List ℕ)
+    → s ≡ 0 → page ≡ setListOf c (cardOf ws) → n ≡ length page → n ≤ length before → buffer ≡ sets before 0 page → x ≡ giving 0 n
+    → Answered ws i before x ws buffer
+identified ws i c given before m e s es n page x buffer z ep en h eb ex =
+    viewed-done ws i Identify c given before m e s es ws Unsent x buffer z (quiet-tells ws (desk-there ws (legal-known ws e)))
+    (rw (ex, ← ep) (granting n 0 page before buffer en h eb)) (rw ex)
+
+-- ---- Get Features 0Bh: dword 0 alone
+
+pub notices-read :
+    (ws : List ℕ) (i : Item) (c : Command) (given : ℕ) (before : List ℕ) → meaning i ≡ Nobody (viewed GetNotices c given (length before))
+    → legalTable ws ≡ true → (s : ℕ) → s ≡ viewStatus GetNotices c given (length before) ws → (on : Bool) (w : ℕ) (x : Reply)
+    → s ≡ 0 → on ≡ deskAt ws .on → w ≡ noticesNo on → x ≡ giving w 0 → Answered ws i before x ws before
+notices-read ws i c given before m e s es on w x z eo ew ex =
+    viewed-done ws i GetNotices c given before m e s es ws Unsent x before z (quiet-tells ws (desk-there ws (legal-known ws e)))
+    (rw (ex, ew, eo) (no-data _ before)) (rw ex)
 
 -- how long Identify's page is
 pub list-long : (from : ℕ) (sets : List Attributes) → identifySize ≡ length (identifyPage from sets)

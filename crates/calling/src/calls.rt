@@ -8,10 +8,13 @@ use card::media::writes;
 use card::set_up::set_up;
 use record::SetId;
 use replies::Reply;
+use replies::to_no;
+use replies::told_no;
 use streams::HEAD;
 use streams::count_in;
 use streams::give;
 use streams::give_reply;
+use streams::give_status;
 use streams::give_words;
 use streams::number;
 use streams::set_in;
@@ -48,21 +51,33 @@ fn answer_whole(
     answer: &mut [u8],
 ) {
     let r = reply_of(head, kind, table, bytes, given, answer);
-    give_reply(r.status, r.dword, r.len);
+    let notice = r.notice;
+    give_reply(r.status, r.dword, r.len, told_no(notice), to_no(notice));
 }
 
 fn answer_part(table: &mut [u64], bytes: &[u8], given: &[u8], answer: &mut [u8]) {
     let mut status = 0;
     let mut dword = 0;
-    let written = command_part(table, bytes, given, answer, &mut status, &mut dword);
-    give_reply(status, dword, written.len());
+    let mut told = 0;
+    let mut to = 0;
+    let written = command_part(
+        table,
+        bytes,
+        given,
+        answer,
+        &mut status,
+        &mut dword,
+        &mut told,
+        &mut to,
+    );
+    give_reply(status, dword, written.len(), told, to);
     give(written);
 }
 
 fn answer_by(head: &[u8; HEAD], table: &mut [u64], bytes: &[u8], given: &[u8], answer: &mut [u8]) {
     let kind = number(head, 0, 1);
     if kind == 7 {
-        give_reply(set_up(table, given), 0, 0);
+        give_status(set_up(table, given));
     } else if kind == 8 {
         answer_part(table, bytes, given, answer);
     } else {

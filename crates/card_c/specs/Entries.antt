@@ -26,9 +26,19 @@ pub record SetUpAtC (bodies region after : List ℕ) (number : ℕ) : Type 0 whe
 abbrev pub replySize : ℕ
 replySize = 16
 
+-- where the notice begins, where its identifier stands, and how many bytes it takes
+abbrev pub noticeAt : ℕ
+noticeAt = 8
+
+abbrev pub noticeIdAt : ℕ
+noticeIdAt = 10
+
+abbrev pub noticeSize : ℕ
+noticeSize = 8
+
 unfoldable pub replyPage : ℕ → ℕ → Notice → List ℕ
 replyPage dword len notice =
-    place replySize (field 0 4 dword ∷ field 4 4 len ∷ field 8 2 (toldNo notice) ∷ field 10 2 (toNo notice) ∷ field 12 4 (noticeNo notice) ∷ [])
+    place replySize (field 0 4 dword ∷ field 4 4 len ∷ field noticeAt 2 (toldNo notice) ∷ field noticeIdAt 2 (toNo notice) ∷ field 12 4 (noticeNo notice) ∷ [])
 
 -- as many of them as the region has room for
 abbrev pub replyPart : ℕ → ℕ → Notice → ℕ → List ℕ

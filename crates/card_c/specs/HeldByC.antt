@@ -1,4 +1,4 @@
--- Demand 3, and "hands back" of demand 2, of the functions for C, called one after another on one region of bytes:
+-- Demand 3, "hands back" of demand 2, and 02's notices, of the functions for C, called one after another on one region of bytes:
 -- crates/steps/specs/Holders.antt says what is demanded of any holder of a card, and here is this one.
 -- A history is any list of calls, each lent the region that the one before has left, of which each function's promise holds
 -- (`AnsweredAtC`, what a card_ function ensures). Beside it nothing is supposed but that bytes are bytes, as their type says.
@@ -6,16 +6,19 @@
 use mathlib.Core.Path.{_≡_}
 use mathlib.Core.Bool.{true}
 use mathlib.Core.List.{List}
-use Prim.Native.Nat.{ℕ}
-use lib.ListN.{length}
+use Prim.Native.Nat.{ℕ, _-_, min}
+use lib.Dec.{leb}
+use lib.ListN.{length, replicate}
 use lib.Seq.{sets}
-use Rattle.octets.specs.Octets.{AllBytes}
-use Rattle.table.specs.Table.{recordsOf, legalTable}
+use Rattle.octets.specs.Octets.{numberOf, part, AllBytes}
+use Rattle.replies.specs.declared.Notice.{Notice}
+use Rattle.replies.specs.Answers.{noticeOf}
+use Rattle.table.specs.Table.{cardOf, legalTable}
 use Rattle.region.specs.Region.{tableIn, tableOut}
 use Rattle.steps.specs.Items.{Item, GivenBytes}
-use Rattle.steps.specs.SetUp.{newSets}
+use Rattle.steps.specs.SetUp.{newCard}
 use Rattle.steps.specs.Holders.{Holder, Demanded, NeverLost}
-use Rattle.card_c.specs.Entries.{SetUpAtC, AnsweredAtC, replyPart}
+use Rattle.card_c.specs.Entries.{SetUpAtC, AnsweredAtC, replySize, noticeAt, noticeIdAt, noticeSize, replyPart}
 
 -- what a call is lent beside the region: the item, the answer buffer, and the region for its reply
 pub record LentByC : Type 0 where
@@ -29,6 +32,13 @@ pub record BackToC : Type 0 where
   pub buffer : List ℕ
   pub said : List ℕ
 
+-- a reply with no notice: zeros from byte 8 on, as far as it reaches; and the notice that stands there
+abbrev pub silenced : List ℕ → List ℕ
+silenced said = sets said noticeAt (replicate (min (length said - noticeAt) noticeSize) 0)
+
+abbrev pub noticeIn : List ℕ → Notice
+noticeIn said = noticeOf (numberOf (part said noticeAt 2)) (numberOf (part said noticeIdAt 2))
+
 abbrev pub heldByC : Holder
 heldByC =
     record {
@@ -38,30 +48,33 @@ heldByC =
       words = tableIn;
       with-words = tableOut;
       item = λ l. l .item;
-      shows = λ l a.
+      shows = λ l a n.
           record {
             number = a .status;
             buffer = sets (l .before) 0 (a .bytes);
-            said = sets (l .reply) 0 (replyPart (a .dword) (length (a .bytes)) (length (l .reply)));
+            said = sets (l .reply) 0 (replyPart (a .dword) (length (a .bytes)) n (length (l .reply)));
           };
       status = λ b. b .number;
+      without = λ b. record { number = b .number; buffer = b .buffer; said = silenced (b .said) };
+      notice = λ b. noticeIn (b .said);
+      hears = λ l. leb replySize (length (l .reply));
       Call = λ region l b after.
           AllBytes region × GivenBytes (l .item)
           × AnsweredAtC region (l .item) (l .before) (l .reply) (b .number) after (b .buffer) (b .said);
     }
 
--- "Start from any legal table": set-up that succeeds leaves one, which holds the new sets
+-- "Start from any legal table": set-up that succeeds leaves one, which holds the new sets; 02: notices off, no mask, no flag, none waiting
 abbrev pub SetUpLegalAtC : Type 0
 SetUpLegalAtC =
     (bodies region after : List ℕ) (number : ℕ) → AllBytes region → AllBytes bodies → SetUpAtC bodies region after number → number ≡ 0
-    → (legalTable (tableIn after) ≡ true) × (recordsOf (tableIn after) ≡ newSets bodies)
+    → (legalTable (tableIn after) ≡ true) × (cardOf (tableIn after) ≡ newCard bodies)
 
--- The notice of one set is never lost to another: a set that is listed stays so, whatever C functions are called that do not name
+-- The listing of one set is never lost to another: a set that is listed stays so, whatever C functions are called that do not name
 -- it, and a read of page 0Bh then lists it (`AggregateBack` of the next).
 abbrev pub NoticeNeverLost : Type 0
 NoticeNeverLost = NeverLost heldByC
 
--- All of it: own record, own answers, the aggregate log exact and rising, swapping with not one byte changed, and "What Set Features
--- stores, Get Features hands back."
+-- All of it: own record, own answers, the aggregate log exact and rising, swapping with not one byte of the table changed, "What Set
+-- Features stores, Get Features hands back.", and what 02 promises of notices, read from the reply's bytes.
 abbrev pub DemandAtC : Type 0
 DemandAtC = Demanded heldByC

@@ -1,4 +1,5 @@
 -- The proof of the claim: each statement by its proof, under its name.
+use Rattle.desk.proofs.LegalDesks as desks
 use Rattle.rules.proofs.Leads.{leads, starts-anew, held-stays, carries-none}
 use Rattle.rules.proofs.Warnings.{zero-never-warns, above-warns-on-entry, own-warning}
 use Rattle.rules.proofs.OffRefuses.{off-refuses}
@@ -7,12 +8,14 @@ use Rattle.pages.proofs.Back.{data-back}
 use Rattle.pages.proofs.Listed.{one-word, count-is-ones, next-is-lowest}
 use Rattle.steps.proofs.AggregateLog.{aggregate-log}
 use Rattle.steps.proofs.EdgesHold.{edges}
-use Rattle.steps.proofs.ExactRefusals.{exactly, exactly-events, exactly-ticks, carried-out, refused-buffer, refused-handed, set-up-exactly, set-up-refused, set-up-legal}
+use Rattle.steps.proofs.ExactRefusals.{exactly, exactly-events, exactly-ticks, carried-out, number-tells, refused-buffer, refused-handed, set-up-exactly, set-up-refused, set-up-legal}
 use Rattle.steps.proofs.FirmPromises.{one-set-up, one-answer, one-handed}
 use Rattle.steps.proofs.HeldWords.{words-demand, part-demand}
 use Rattle.steps.proofs.IdleRefuted.{not-refusing-all, not-alike, not-still, not-first-only, marks-counted, ones-counted, lowest-first}
 use Rattle.steps.proofs.NamedItems.{named-items}
-use Rattle.steps.proofs.OnWords.{refused, refused-words, words-run, words-trace, words-swap}
+use Rattle.steps.proofs.NoticeCases.{cases-hold, notices-move, swap-asks}
+use Rattle.steps.proofs.Notices.{card-kept, sent-only, held-else, in-turn, no-listing-unheard, served-at-once, woken, one-at-most, notices-stored}
+use Rattle.steps.proofs.OnWords.{refused, refused-words, words-run, words-trace, words-notices, words-swap}
 use Rattle.steps.proofs.Order.{order}
 use Rattle.steps.proofs.OwnHistory.{own-record, by-rules, own-answers, joined, listed, picked-ids, aggregate, in-order, stays-listed, swap, swap-within}
 use Rattle.steps.proofs.PastWords.{not-read, not-written, set-up-not-read, set-up-not-written}
@@ -36,6 +39,7 @@ claim =
       exactly-events = exactly-events;
       exactly-ticks = exactly-ticks;
       carried-out = carried-out;
+      number-tells = number-tells;
       refused = refused;
       refused-words = refused-words;
       refused-buffer = refused-buffer;
@@ -44,6 +48,8 @@ claim =
       set-up-refused = set-up-refused;
       set-up-legal = set-up-legal;
       legal-words = legal-words;
+      desk-legal-words = desks.legal-words;
+      legal-desks = desks.legal-desks;
       off-refuses = off-refuses;
       leads = leads;
       starts-anew = starts-anew;
@@ -55,6 +61,7 @@ claim =
       data-back = data-back;
       config-stored = config-stored;
       window-stored = window-stored;
+      notices-stored = notices-stored;
       one-word = one-word;
       count-is-ones = count-is-ones;
       next-is-lowest = next-is-lowest;
@@ -71,9 +78,21 @@ claim =
       stays-listed = stays-listed;
       swap = swap;
       swap-within = swap-within;
+      swap-asks = swap-asks;
+      notices-move = notices-move;
+      card-kept = card-kept;
+      sent-only = sent-only;
+      held-else = held-else;
+      in-turn = in-turn;
+      no-listing-unheard = no-listing-unheard;
+      served-at-once = served-at-once;
+      woken = woken;
+      one-at-most = one-at-most;
+      cases-hold = cases-hold;
       words-stay = words-stay;
       words-run = words-run;
       words-trace = words-trace;
+      words-notices = words-notices;
       words-swap = words-swap;
       words-demand = words-demand;
       part-demand = part-demand;

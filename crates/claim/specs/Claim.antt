@@ -2,6 +2,7 @@
 -- by the gate (`claim` of proofs/Claim.antt, which only cites the proofs under their names).
 -- Each field is a statement of the file that it names. A new statement in any specs file is a new field here: tests/promises asks
 -- for it.
+use Rattle.desk.specs.Words as desk
 use Rattle.rules.specs.Changes as changes
 use Rattle.rules.specs.Door as door
 use Rattle.rules.specs.Rules as rules
@@ -14,6 +15,8 @@ use Rattle.steps.specs.PastTheTable as past
 use Rattle.steps.specs.Firm as firm
 use Rattle.steps.specs.IdleBuilds as idle
 use Rattle.steps.specs.Demands as demands
+use Rattle.steps.specs.Notices as notices
+use Rattle.steps.specs.NoticeCases as told
 use Rattle.steps.specs.Holders as holders
 use Rattle.card_c.specs.Demands as at-c
 use Rattle.card_c.specs.HeldByC as held-by-c
@@ -30,6 +33,7 @@ pub record Claim : Type 0 where
   pub exactly-events : demands.ExactlyEvents
   pub exactly-ticks : demands.ExactlyTicks
   pub carried-out : demands.CarriedOut
+  pub number-tells : demands.NumberTells
   pub refused : demands.Refused
   pub refused-words : demands.RefusedWords
   pub refused-buffer : demands.RefusedBuffer
@@ -40,6 +44,8 @@ pub record Claim : Type 0 where
   pub set-up-legal : demands.SetUpLegal
   -- what is legal, word by word
   pub legal-words : legal.LegalWords
+  pub desk-legal-words : desk.LegalWords
+  pub legal-desks : desk.LegalDesks
   -- ==== demand 2: what each item does
   -- the table of window changes, and the door between windows
   pub off-refuses : changes.OffRefuses
@@ -55,6 +61,7 @@ pub record Claim : Type 0 where
   pub data-back : features.DataBack
   pub config-stored : demands.ConfigStored
   pub window-stored : demands.WindowStored
+  pub notices-stored : notices.NoticesStored
   -- page 0Bh: "the count is its ones and the next entry its lowest one"
   pub one-word : listing.OneWord
   pub count-is-ones : listing.CountIsOnes
@@ -76,13 +83,30 @@ pub record Claim : Type 0 where
   -- items that name different sets may change places
   pub swap : demands.Swap
   pub swap-within : demands.SwapWithin
+  pub swap-asks : notices.SwapAsks
+  pub notices-move : notices.NoticesMove
+  -- ==== 02, "Wake the host": notices, on the card
+  pub card-kept : notices.CardKept
+  -- when one goes out, and what is remembered where none does
+  pub sent-only : notices.SentOnly
+  pub held-else : notices.HeldElse
+  -- each request once at most, in turn
+  pub in-turn : notices.InTurn
+  -- no listing unheard
+  pub no-listing-unheard : notices.NoListingUnheard
+  pub served-at-once : notices.ServedAtOnce
+  pub woken : notices.Woken
+  pub one-at-most : notices.OneAtMost
+  -- each of its sentences on one item
+  pub cases-hold : told.CasesHold
   -- ==== on the lent words
   -- a run over words is the card's
   pub words-stay : demands.WordsStay
   pub words-run : demands.WordsRun
   pub words-trace : demands.WordsTrace
+  pub words-notices : demands.WordsNotices
   pub words-swap : demands.WordsSwap
-  -- "hands back" of demand 2, and demand 3, of calls, one after another: with a reply, and with a part handed back
+  -- "hands back" of demand 2, demand 3, and 02's notices, of calls, one after another: with a reply, and with a part handed back
   pub words-demand : holders.WordsDemand
   pub part-demand : holders.PartDemand
   -- "words past it are neither read nor written"
@@ -94,7 +118,7 @@ pub record Claim : Type 0 where
   -- demand 1
   pub refused-item : at-c.RefusedItem
   pub refused-set-up : at-c.RefusedSetUp
-  -- "hands back" of demand 2, and demand 3, of calls on one region, one after another; no notice is lost to another set
+  -- "hands back" of demand 2, demand 3, and 02's notices, of calls on one region, one after another; no listing is lost to another set
   pub set-up-legal-at-c : held-by-c.SetUpLegalAtC
   pub demand-at-c : held-by-c.DemandAtC
   pub notice-never-lost : held-by-c.NoticeNeverLost

@@ -11,7 +11,7 @@ use record::Attributes;
 use rules::Media;
 use streams::HEAD;
 use streams::count_in;
-use streams::give_reply;
+use streams::give_status;
 use streams::give_words;
 use streams::number;
 use streams::part;
@@ -105,7 +105,7 @@ fn status_of(head: &[u8; HEAD], table: &mut [u64], bodies: &[u8]) -> u16 {
 }
 
 fn carry_out(head: &[u8; HEAD], table: &mut [u64], bodies: &[u8], buf: &mut [u8]) {
-    give_reply(status_of(head, table, bodies), 0, 0);
+    give_status(status_of(head, table, bodies));
     give_words(table, buf);
 }
 

@@ -6,7 +6,8 @@ ghost use Prim.Native.Nat.{_≤_};
 ghost use lib.ListN.{length};
 ghost use Rattle.octets.specs.Octets.{padded};
 ghost use Rattle.replies.specs.Status.{firstOf, linesOf};
-ghost use Rattle.replies.specs.Answers.{answered, refusing, giving, done, awaiting, besideOf, toldNo, toNo, noticeOf, noticeNo, Replied};
+ghost use Rattle.replies.specs.Answers.{answered, replying, refusing, giving, done, awaiting, besideOf, toldNo, toNo, noticeOf, noticeNo, Replied};
+ghost use Rattle.replies.specs.declared.Notice.{Notice};
 use crate::numbers::REQUEST_WAITS;
 use crate::numbers::SUCCESS;
 
@@ -41,8 +42,9 @@ pub fn first(tests: &[bool], numbers: &[u16]) -> u16
     SUCCESS
 }
 
-pub fn refuse(status: u16) -> Reply
-    ensures { λ r. ⌜ r ≡ refusing status ⌝ }
+// A number and nothing else.
+fn bare(status: u16) -> Reply
+    ensures { λ r. ⌜ r ≡ replying status 0 0 Notice.Unsent ⌝ }
 {
     Reply {
         status,
@@ -50,6 +52,12 @@ pub fn refuse(status: u16) -> Reply
         len: 0,
         notice: Notice::Unsent,
     }
+}
+
+pub fn refuse(status: u16) -> Reply
+    ensures { λ r. ⌜ r ≡ refusing status ⌝ }
+{
+    bare(status)
 }
 
 // Carried out, with dword 0 and so many bytes of data.
@@ -75,12 +83,7 @@ pub fn done() -> Reply
 pub fn awaiting() -> Reply
     ensures { λ r. ⌜ r ≡ awaiting ⌝ }
 {
-    Reply {
-        status: REQUEST_WAITS,
-        dword: 0,
-        len: 0,
-        notice: Notice::Unsent,
-    }
+    bare(REQUEST_WAITS)
 }
 
 // The same reply, with this notice beside it.

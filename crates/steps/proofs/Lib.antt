@@ -17,5 +17,6 @@ pub mod PastWords
 pub mod Order
 pub mod WordsStay
 pub mod Notices
+pub mod NoticeCases
 pub mod HeldHistories
 pub mod HeldWords

@@ -12,4 +12,5 @@ pub mod Firm
 pub mod IdleBuilds
 pub mod Demands
 pub mod Notices
+pub mod NoticeCases
 pub mod Holders

@@ -5,8 +5,9 @@
 // 7:4 count or milliseconds; 9:8 words of the table; 11:10, 13:12, 15:14 bytes of the answer buffer, of the command and of the
 // data, which for set-up are the bodies. Kinds are those of a replay file, and 08h is a command that hands back its part.
 //
-// What is written: 1:0 status, 7:4 dword 0, 11:8 length of the data; for 08h the part itself; then every word of the table and
-// every byte of the answer buffer. All numbers are little-endian.
+// What is written: 1:0 status, 3:2 whether a notice goes beside it (1 or 0), 7:4 dword 0, 11:8 length of the data, 13:12 the
+// identifier of the request that the notice completes; for 08h the part itself; then every word of the table and every byte of the
+// answer buffer. All numbers are little-endian.
 use libc::STDIN_FILENO;
 use libc::STDOUT_FILENO;
 use octets::words::words_in;
@@ -14,7 +15,7 @@ use octets::words::words_out;
 
 pub const HEAD: usize = 16;
 
-const REPLY: usize = 12;
+const REPLY: usize = 14;
 
 // The number in some bytes of a head; 0 where they are not there.
 pub fn number(head: &[u8; HEAD], at: usize, width: usize) -> u64 {
@@ -124,10 +125,17 @@ pub fn give_words(words: &[u64], buf: &mut [u8]) {
     }
 }
 
-pub fn give_reply(status: u16, dword: u32, len: usize) {
+pub fn give_reply(status: u16, dword: u32, len: usize, told: u16, to: u16) {
     let mut reply = [0u8; REPLY];
     octets::put(&mut reply, 0, 2, status as u64);
+    octets::put(&mut reply, 2, 2, told as u64);
     octets::put(&mut reply, 4, 4, dword as u64);
     octets::put(&mut reply, 8, 4, len as u64);
+    octets::put(&mut reply, 12, 2, to as u64);
     give(&reply);
+}
+
+// What has a status and nothing beside it.
+pub fn give_status(status: u16) {
+    give_reply(status, 0, 0, 0, 0);
 }
