@@ -47,9 +47,9 @@ module _ (ws : List ℕ) (i : Item) (before : List ℕ) where
 
   -- with the notice that goes beside it
   pub carried :
-      (vs : List ℕ) (n : Notice) (x : Reply) → vs ≡ stepWords ws i .table → stepWords ws i .answer ≡ granted 0 []
-      → n ≡ stepWords ws i .notice → x ≡ besideOf done n → Answered ws i before x vs before
-  carried vs n x ev ea en ex = record { table = ev; reply = rw (ea, ex) (waits-reply 0 before n); notice = rw ex en }
+      (vs : List ℕ) (n : Notice) (y x : Reply) → vs ≡ stepWords ws i .table → stepWords ws i .answer ≡ granted 0 []
+      → n ≡ stepWords ws i .notice → y ≡ done → x ≡ besideOf y n → Answered ws i before x vs before
+  carried vs n y x ev ea en ey ex = record { table = ev; reply = rw (ea, ex, ey) (waits-reply 0 before n); notice = rw ex en }
 
   pub bad : (x : Reply) → legalTable ws ≡ false → x ≡ refusing badTable → Answered ws i before x ws before
   bad x e ex = turned-down badTable x (step-bad ws i e) ex
@@ -70,14 +70,14 @@ module _ (ws : List ℕ) (id : ℕ) (m : Media) (e : Entry) (known : e ≡ enter
   module _ (s : Slot) (q : e ≡ Here s) where
     -- the record that was loaded, the record that the rule made of it, and the table that has it; then the desk is told
     pub event-here :
-        (r y : Record) (us vs : List ℕ) (new : Bool) (n : Notice) → r ≡ recordOf (row ws (s .0))
+        (r y : Record) (us vs : List ℕ) (new : Bool) (n : Notice) (z : Reply) → r ≡ recordOf (row ws (s .0))
         → y ≡ settled r (mediaRule m (r .attributes) (r .state)) → us ≡ put ws (s .0) (wordsOf y) → new ≡ newlyListed r y
-        → Tells us (settle new (deskAt us)) vs n → x ≡ besideOf done n → Answered ws (itemOf id m) [] x vs []
-    event-here r y us vs new n er ey eu en t ex =
+        → Tells us (settle new (deskAt us)) vs n → z ≡ done → x ≡ besideOf z n → Answered ws (itemOf id m) [] x vs []
+    event-here r y us vs new n z er ey eu en t ez ex =
         let f = is-here ws id s (sym known ∙ q) in
         let d = step-done ws (itemOf id m) id (event (mediaRule m)) (meaning-media id m) (f .0) (s .0) (f .1) refl in
         let h = rw (ey, er) at (told-put ws us vs new n t (s .0) r y eu en) in
-        carried ws (itemOf id m) [] vs n x (rw d (h .desk)) (rw d) (rw d (h .sent)) ex
+        carried ws (itemOf id m) [] vs n z x (rw d (h .desk)) (rw d) (rw d (h .sent)) ez ex
 
 -- ---- ticks
 
@@ -123,13 +123,13 @@ module _ (ws : List ℕ) (t : ℕ) (before : List ℕ) (x : Reply) (e : legalTab
         told-all (tick t (length before)) (ticked t (length before)) refl (cardOf ws) tick-carried
         ∙ ap (λ (rs : List Record). settle (newly (recordsOf ws) rs) (deskAt ws)) ticked-sets
 
-    pub tick-done : x ≡ besideOf done n → Answered ws (tick t (length before)) before x vs before
-    tick-done ex =
+    pub tick-done : (y : Reply) → y ≡ done → x ≡ besideOf y n → Answered ws (tick t (length before)) before x vs before
+    tick-done y ey ex =
         let i = tick t (length before) in
         let r = step-legal ws i e in
         let many : length (after (cardOf ws) i .sets) ≡ count ws = simp length-map (length-records ws) in
         let d = told-rows ws us vs new n told (recordsOf ws) (map (tickOne t) (recordsOf ws)) eu en in
-        carried ws i before vs n x
+        carried ws i before vs n y x
         (rw (r, header-stays ws (legal-known ws e) (after (cardOf ws) i) many, tick-told, ticked-sets) (d .desk))
         (rw r (tick-answer h))
-        (rw (r, tick-told) (d .sent)) ex
+        (rw (r, tick-told) (d .sent)) ey ex

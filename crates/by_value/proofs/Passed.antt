@@ -15,7 +15,6 @@ use Rattle.commands.specs.declared.Kind.{Kind}
 use Rattle.commands.specs.Commands.{dwordSize, select, offset}
 use Rattle.commands.specs.Shapes.{shapeOf, kindOf, needsIn, needsOut}
 use Rattle.commands.specs.StatusTable.{partWrong, partRow, earlyLines, shortLine, lateLines}
-use Rattle.steps.specs.Commanded.{viewLines}
 use Rattle.commands.proofs.Passed.{early-passed, late-passed}
 
 -- where a part of a page is asked, and the sixth row does not hold, the part starts within the page
@@ -56,9 +55,3 @@ pub view-fine :
 view-fine k c given room s e es z =
     let n = early-passed c (shortLine k c given room ∷ []) refl (sym es ∙ z) in
     fine-by k c given room e (n .part) (passed (shortLine k c given room ∷ []) refl (n .later) .0)
-
--- a command that does not queue is never refused for want of a place, so its status is that of the rows above
-pub unqueued :
-    (k : Kind) (c : Command) (given room waiting s : ℕ) → shapeOf k .queues ≡ false → s ≡ firstOf (earlyLines c ++ shortLine k c given room ∷ [])
-    → s ≡ firstOf (viewLines k c given room waiting)
-unqueued k c given room waiting s h e = e ∙ rw h

@@ -1,7 +1,7 @@
 -- Commands that name no set, from the step to the words and the answer buffer.
 use mathlib.Core.Path.{_≡_, refl, sym, _∙_}
 use mathlib.Core.Bool.{Bool, true, false, not, _&&_}
-use mathlib.Core.List.{List, []}
+use mathlib.Core.List.{List, [], _∷_, _++_}
 use Prim.Native.Nat.{ℕ, _≤_}
 use borrow.Author.Tests.{eqb-true, eqb-false}
 use lib.Dec.{eqb}
@@ -13,8 +13,8 @@ use Rattle.replies.specs.declared.Notice.{Notice}
 use Rattle.replies.specs.declared.Notice.the-variants.{Unsent}
 use Rattle.replies.specs.declared.Reply.{Reply}
 use Rattle.replies.specs.Status.{firstOf}
-use Rattle.replies.specs.Answers.{saying, answered, refused, replying, refusing, giving, Replied}
-use Rattle.replies.proofs.Answering.{granting, one-outcome, refused-reply, no-data, waits-reply}
+use Rattle.replies.specs.Answers.{saying, answered, refused, refusing, giving, besideOf, Replied}
+use Rattle.replies.proofs.Answering.{granting, one-outcome, with-notice, refused-reply, no-data, waits-reply}
 use Rattle.desk.specs.Desk.{lifted, settle}
 use Rattle.table.specs.Table.{deskAt, withDesk, DeskThere, Tells, legalTable}
 use Rattle.table.proofs.LegalTables.{legal-known, desk-there}
@@ -26,7 +26,8 @@ use Rattle.commands.specs.declared.Command.{Command}
 use Rattle.commands.specs.declared.Kind.{Kind}
 use Rattle.commands.specs.declared.Kind.the-variants.{GetNotices, ReadAggregate, Identify}
 use Rattle.commands.specs.Commands.{commandIn, retain}
-use Rattle.commands.specs.Shapes.{kindOf, isNamed, namedBy}
+use Rattle.commands.specs.Shapes.{shapeOf, kindOf, isNamed, namedBy}
+use Rattle.commands.specs.StatusTable.{earlyLines, shortLine}
 use Rattle.steps.specs.Items.{Item, command, Nobody, The}
 use Rattle.steps.specs.Commanded.{aggregateOf, setListOf, noticesNo, doing, askedOf, named, viewLines, viewed, meaningBy, commandMeaning}
 use Rattle.steps.specs.Meanings.{meaning}
@@ -39,6 +40,12 @@ use Rattle.by_value.proofs.EventsAndTicks.{turned-down}
 -- what the rows of the status table say of it, on this card
 abbrev pub viewStatus : Kind → Command → ℕ → ℕ → List ℕ → ℕ
 viewStatus k c given room ws = firstOf (viewLines k c given room (length (deskAt ws .waiting)))
+
+-- one that does not queue is never refused for want of a place: the rows above that one decide
+pub unqueued :
+    (k : Kind) (c : Command) (given room : ℕ) (ws : List ℕ) (s : ℕ) → shapeOf k .queues ≡ false
+    → s ≡ firstOf (earlyLines c ++ shortLine k c given room ∷ []) → s ≡ viewStatus k c given room ws
+unqueued k c given room ws s h e = e ∙ rw h
 
 module _ (ws : List ℕ) (i : Item) (k : Kind) (c : Command) (given : ℕ) (before : List ℕ)
     (m : meaning i ≡ Nobody (viewed k c given (length before))) (e : legalTable ws ≡ true) (s : ℕ) (es : s ≡ viewStatus k c given (length before) ws) where
@@ -66,10 +73,10 @@ module _ (ws : List ℕ) (i : Item) (k : Kind) (c : Command) (given : ℕ) (befo
 
   -- without dword 0 and data
   pub viewed-told :
-      (vs : List ℕ) (n : Notice) (x : Reply) → s ≡ 0 → Tells ws (settle false (doing k .desk c (deskAt ws))) vs n
-      → doing k .word (cardOf ws) ≡ 0 → askedOf k c (doing k .view c (cardOf ws)) ≡ [] → x ≡ replying (doing k .status) 0 0 n
+      (vs : List ℕ) (n : Notice) (y x : Reply) → s ≡ 0 → Tells ws (settle false (doing k .desk c (deskAt ws))) vs n
+      → doing k .word (cardOf ws) ≡ 0 → askedOf k c (doing k .view c (cardOf ws)) ≡ [] → y ≡ refusing (doing k .status) → x ≡ besideOf y n
       → Answered ws i before x vs before
-  viewed-told vs n x z t w v ex = viewed-done vs n x before z t (rw (ex, w, v) (waits-reply (doing k .status) before n)) (rw ex)
+  viewed-told vs n y x z t w v ey ex = viewed-done vs n x before z t (rw (ex, ey, w, v) (waits-reply (doing k .status) before n)) (rw ex)
 
 -- ---- page 0Bh, which lifts the mask and drops the flag unless Retain is set
 
@@ -80,15 +87,18 @@ lifts-tells ws vs t true h = rw h (quiet-tells ws t)
 lifts-tells ws vs t false h = record { desk = h; sent = refl }
 
 module _ (ws : List ℕ) (i : Item) (c : Command) (given : ℕ) (before : List ℕ) (m : meaning i ≡ Nobody (viewed ReadAggregate c given (length before)))
-    (e : legalTable ws ≡ true) (s : ℕ) (es : s ≡ viewStatus ReadAggregate c given (length before) ws) (bytes : List ℕ) (x : Reply) (buffer vs : List ℕ)
-    (eb : bytes ≡ askedOf ReadAggregate c (aggregateOf c (cardOf ws))) (p : Replied (answered s 0 bytes) before x buffer) (ex : x .notice ≡ Unsent)
+    (e : legalTable ws ≡ true) (s : ℕ) (es : s ≡ viewStatus ReadAggregate c given (length before) ws) (bytes : List ℕ) (y x : Reply) (buffer vs : List ℕ)
+    (eb : bytes ≡ askedOf ReadAggregate c (aggregateOf c (cardOf ws))) (p : Replied (answered s 0 bytes) before y buffer) (ex : x ≡ besideOf y Unsent)
     (ev : vs ≡ (if eqb s 0 && not (retain c) then withDesk ws (lifted (deskAt ws)) else ws)) where
+  reply-is : Replied (answered s 0 bytes) before x buffer
+  reply-is = rw ex (with-notice _ before buffer y Unsent p)
+
   by-status : (b : Bool) → eqb s 0 ≡ b → Answered ws i before x vs buffer
   by-status true t =
       viewed-done ws i ReadAggregate c given before m e s es vs Unsent x buffer (eqb-true s 0 t)
-      (lifts-tells ws vs (desk-there ws (legal-known ws e)) (retain c) (rw t at ev)) (rw (t, eb) at p) ex
+      (lifts-tells ws vs (desk-there ws (legal-known ws e)) (retain c) (rw t at ev)) (rw (t, eb) at reply-is) (rw ex)
   by-status false t =
-      let f = one-outcome (refused s) before buffer before x (refusing s) (rw t at p) (refused-reply s before) ex in
+      let f = one-outcome (refused s) before buffer before x (refusing s) (rw t at reply-is) (refused-reply s before) (rw ex) in
       let v : vs ≡ ws = rw t at ev in
       rw (v, f .1) (viewed-refused ws i ReadAggregate c given before m e s es x (eqb-false s 0 t) (f .0))
 

@@ -42,6 +42,7 @@ use commands::turns_on;
 use pages::identify::IDENTIFY_SIZE;
 use record::Slot;
 use record::event::newly_listed;
+use replies::Notice;
 use replies::Reply;
 use replies::awaiting;
 use replies::beside;
@@ -121,8 +122,14 @@ fn lift_if(table: &mut [u64], lifts: bool)
     }
 }
 
-// Page 0Bh: with Retain 0 it lifts the mask and drops the flag.
-fn answer_aggregate(table: &mut [u64], c: Command, early: u16, given: usize, answer: &mut [u8]) -> Reply
+// Page 0Bh: with Retain 0 it lifts the mask and drops the flag. That sends no notice.
+fn answer_aggregate(
+    table: &mut [u64],
+    c: Command,
+    early: u16,
+    given: usize,
+    answer: &mut [u8],
+) -> Reply
     requires { ⌜ (Kind.ReadAggregate ≡ kindOf c) × (early ≡ firstOf (earlyLines c)) ⌝ }
     ensures { λ r. ⌜ ((i : Item) → meaning i ≡ Nobody (viewed Kind.ReadAggregate c given (length (now (answer .entry)))) → Answered (now (table .entry)) i (now (answer .entry)) r (now (table .exit)) (now (answer .exit))) ⌝ }
 {
@@ -133,7 +140,7 @@ fn answer_aggregate(table: &mut [u64], c: Command, early: u16, given: usize, ans
         let n = needs_out(Kind::ReadAggregate, c) as usize;
         let reply = replies::hand_out(status, 0, &page, from, n, answer);
         lift_if(table, (status == 0) & !retains(c));
-        reply
+        beside(reply, Notice::Unsent)
     } else {
         refuse(BAD_TABLE)
     }

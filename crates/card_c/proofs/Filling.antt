@@ -6,6 +6,8 @@ use native.Mathlib.Omega.{arith}
 use native.Mathlib.Nat.{sub-zero}
 use native.Mathlib.Numerals.{add-one}
 use lib.ListN.{length}
+use Rattle.desk.specs.Desk.{newDesk}
+use Rattle.desk.specs.Words.{deskWords}
 use Rattle.octets.specs.Octets.{AllBytes}
 use Rattle.octets.specs.Words.{wordSize, putWords}
 use Rattle.octets.proofs.WordBytes.{length-put-words}
@@ -70,7 +72,7 @@ module _ (bytes b : List ℕ) (s : ℕ) (each : AllBytes b) (e : s ≡ setUpStat
       record { table = sym (own-region b each) ∙ ap (tableOut b) (u .table); status = u .status }
 
   pub new-done :
-      s ≡ 0 → (c d : List ℕ) → c ≡ putWords b 0 (layoutNumber ∷ bodies bytes ∷ []) → d ≡ withRecords c 0 (map keptRecord (attributesFrom bytes 0 (bodies bytes)))
+      s ≡ 0 → (c d : List ℕ) → c ≡ putWords b 0 (layoutNumber ∷ bodies bytes ∷ deskWords newDesk) → d ≡ withRecords c 0 (map keptRecord (attributesFrom bytes 0 (bodies bytes)))
       → SetUpAtC bytes b d s
   unfolding newSets
   new-done z c d ec ed =

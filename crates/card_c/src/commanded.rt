@@ -49,6 +49,7 @@ use pages::identify::IDENTIFY_SIZE;
 use record::Record;
 use record::Slot;
 use record::event::newly_listed;
+use replies::Notice;
 use replies::Reply;
 use replies::awaiting;
 use replies::beside;
@@ -166,7 +167,7 @@ fn lift_if(region: &mut [u8], lifts: bool)
     }
 }
 
-// Page 0Bh: with Retain 0 it lifts the mask and drops the flag.
+// Page 0Bh: with Retain 0 it lifts the mask and drops the flag. That sends no notice.
 fn answer_aggregate(region: &mut [u8], c: Command, early: u16, given: usize, answer: &mut [u8]) -> Reply
     requires { ⌜ (Kind.ReadAggregate ≡ kindOf c) × (early ≡ firstOf (earlyLines c)) ⌝ }
     ensures { λ r. ⌜ ((i : Item) → meaning i ≡ Nobody (viewed Kind.ReadAggregate c given (length (now (answer .entry)))) → AnswerAtC (now (region .entry)) i (now (answer .entry)) r (now (region .exit)) (now (answer .exit))) ⌝ }
@@ -178,7 +179,7 @@ fn answer_aggregate(region: &mut [u8], c: Command, early: u16, given: usize, ans
         let n = needs_out(Kind::ReadAggregate, c) as usize;
         let reply = replies::hand_out(status, 0, &page, from, n, answer);
         lift_if(region, (status == 0) & !retains(c));
-        reply
+        beside(reply, Notice::Unsent)
     } else {
         refuse(BAD_TABLE)
     }

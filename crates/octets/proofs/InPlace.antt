@@ -9,7 +9,7 @@ use lib.ListN.{length, getD, set, take, drop, length-take, length-drop, take-app
 use lib.Seq.{sets, length-sets, drop-drop}
 use Rattle.octets.specs.Octets.{bytesOf, numberOf, part, AllBelow, AllBytes}
 use Rattle.octets.specs.Words.{wordSize, AllWords, wordsFrom, putWords}
-use Rattle.octets.proofs.Runs.{sets-whole, sets-append, sets-comm, sets-over}
+use Rattle.octets.proofs.Runs.{sets-whole, sets-append, sets-comm, sets-over, part-other}
 use Rattle.octets.proofs.Below.{below-rest, sets-below, Each, each-below}
 use Rattle.octets.proofs.Reading.{read-below}
 use Rattle.octets.proofs.PutAndGet.{length-bytes, get-put, get-other}
@@ -161,3 +161,21 @@ put-over (w ∷ ws) (v ∷ vs) y at e =
     (put-comm ws (bytesOf wordSize v) (sets y at (bytesOf wordSize w)) at (at + wordSize) (omega (arith, length-bytes wordSize v))
     ∙ ap (λ (z : List ℕ). putWords z (at + wordSize) ws) (sets-over (bytesOf wordSize w) (bytesOf wordSize v) y at same))
     ∙ put-over ws vs (sets y at (bytesOf wordSize v)) (at + wordSize) (omega arith)
+
+-- ---- words put after others: they may change places, and those before are as they were
+
+pub words-comm : (us vs y : List ℕ) (b d : ℕ) → b + length us * wordSize ≤ d → putWords (putWords y d vs) b us ≡ putWords (putWords y b us) d vs
+words-comm [] vs y b d h = refl
+words-comm (u ∷ us) vs y b d h =
+    ap (λ (x : List ℕ). putWords x (b + wordSize) us) (put-comm vs (bytesOf wordSize u) y b d (omega arith))
+    ∙ words-comm us vs (sets y b (bytesOf wordSize u)) (b + wordSize) d (omega arith)
+
+part-before : (vs y : List ℕ) (d at n : ℕ) → at + n ≤ d → part (putWords y d vs) at n ≡ part y at n
+part-before [] y d at n h = refl
+part-before (v ∷ vs) y d at n h =
+    part-before vs (sets y d (bytesOf wordSize v)) (d + wordSize) at n (omega arith) ∙ part-other (bytesOf wordSize v) y d at n (inl h)
+
+pub words-before : (vs y : List ℕ) (d at n : ℕ) → at + n * wordSize ≤ d → wordsFrom (putWords y d vs) at n ≡ wordsFrom y at n
+words-before vs y d at zero h = refl
+words-before vs y d at (suc n) h =
+    ap₂ _∷_ (ap numberOf (part-before vs y d at wordSize (omega arith))) (words-before vs y d (at + wordSize) n (omega arith))

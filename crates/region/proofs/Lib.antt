@@ -1,2 +1,3 @@
 pub mod Words
 pub mod EveryRow
+pub mod AtDesk

@@ -11,7 +11,8 @@ use lib.ListN.{length, getD}
 use lib.Seq.{sets}
 use Rattle.octets.specs.Words.{AllWords}
 use Rattle.octets.proofs.Below.{Each, each-below, sets-below, part-below}
-use Rattle.desk.specs.Desk.{requestsMaximum, identifierMaximum, allIdentifiers, legalDesk}
+use Rattle.desk.specs.Words.{deskWords}
+use Rattle.desk.specs.Desk.{Desk, requestsMaximum, identifierMaximum, allIdentifiers, legalDesk}
 use Rattle.desk.proofs.LegalDesks.{fine}
 use Rattle.octets.proofs.JoinedTests.{both}
 use Rattle.record.specs.declared.Events.{Events}
@@ -179,13 +180,19 @@ id-small [] k h = lit< tt
 id-small (x ∷ xs) zero h = let l = leb-true x identifierMaximum (both (leb x identifierMaximum) (allIdentifiers xs) h .0) in omega arith
 id-small (x ∷ xs) (suc k) h = id-small xs k (both (leb x identifierMaximum) (allIdentifiers xs) h .1)
 
-header-fit : (c : Card) → length (c .sets) < 2 ^ 64 → legalDesk (c .desk) ≡ true → Each (2 ^ 64) (header c)
-header-fit c few h =
-    let d = c .desk in
+desk-each : (d : Desk) → legalDesk d ≡ true → Each (2 ^ 64) (deskWords d)
+desk-each d h =
     let f = fine d h in
     let n : length (d .waiting) < 2 ^ 64 = let l = leb-true (length (d .waiting)) requestsMaximum (f .few) in omega arith in
     let id : (k : ℕ) → getD (d .waiting) k 0 < 2 ^ 64 = λ k. id-small (d .waiting) k (f .ids) in
-    (lit< tt, (few, (mark-small (d .on), (mark-small (d .masked), (mark-small (d .flag), (n, (id 0, (id 1, (id 2, (id 3, tt))))))))))
+    (mark-small (d .on), (mark-small (d .masked), (mark-small (d .flag), (n, (id 0, (id 1, (id 2, (id 3, tt))))))))
+
+pub desk-fit : (d : Desk) → legalDesk d ≡ true → AllWords (deskWords d)
+desk-fit d h = each-below (2 ^ 64) (lit< tt) (deskWords d) (desk-each d h)
+
+header-fit : (c : Card) → length (c .sets) < 2 ^ 64 → legalDesk (c .desk) ≡ true → Each (2 ^ 64) (header c)
+header-fit c few h =
+    (lit< tt, (few, desk-each (c .desk) h))
 
 pub written-fit : (ws : List ℕ) (c : Card) → AllWords ws → length (c .sets) < 2 ^ 64 → AllFit (c .sets) → legalDesk (c .desk) ≡ true → AllWords (written ws c)
 unfolding written writtenRows

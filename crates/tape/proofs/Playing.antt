@@ -1,7 +1,7 @@
 -- Items of a tape: how long their bodies are, what their lines say, and what stands next.
 use mathlib.Core.Path.{_≡_, refl, sym, ap, subst, _∙_}
 use mathlib.Core.Bool.{Bool, true, false, _&&_}
-use mathlib.Core.List.{List, [], _∷_}
+use mathlib.Core.List.{List, [], _∷_, _++_}
 use mathlib.Core.Option.{Option, none, some}
 use Prim.Native.Nat.{ℕ, zero, suc, _+_, _-_, _≤_, _<_}
 use native.Mathlib.Omega.{arith}
@@ -12,15 +12,18 @@ use lib.Seq.{sets, take-length}
 use Rattle.octets.specs.Choice.{if_then_else_}
 use Rattle.octets.specs.Numbers.{numberAt}
 use Rattle.octets.proofs.JoinedTests.{both}
+use Rattle.replies.specs.declared.Notice.{Notice}
+use Rattle.replies.specs.declared.Notice.the-variants.{Unsent, To}
 use Rattle.replies.specs.declared.Reply.{Reply}
-use Rattle.replies.specs.Answers.{Answer, cut, Replied}
+use Rattle.replies.specs.Answers.{toldNo, toNo, noticeOf, cut, Replied}
 use Rattle.commands.specs.Commands.{commandSize}
 use Rattle.steps.specs.Items.{Item, reads, writes, excursion, tick, command}
 use Rattle.steps.specs.Words.{stepWords, Answered, Handed}
-use Rattle.tape.specs.Text.{itemLine, Put}
-use Rattle.tape.specs.Tape.{itemSizes, itemSize, attributesKind, attributesSize, answerSize, mediaItem, itemBy, isItem, itemIn, Played, nextBody, nextSet, nextItem}
+use Rattle.tape.specs.Text.{itemLine, noticeLine, Put}
+use Rattle.tape.specs.Tape.{itemSizes, itemSize, attributesKind, attributesSize, answerSize, mediaItem, itemBy, isItem, itemIn, lineFor, Played, nextBody, nextSet, nextItem}
 use Rattle.tape.specs.declared.Next.{Next}
 use Rattle.tape.specs.declared.Next.the-variants.{Over, Bad}
+use Rattle.tape.proofs.Writing.{then}
 
 -- ---- bodies
 
@@ -53,13 +56,16 @@ known-item kind body h =
 
 -- ---- lines
 
+-- an item's own line, and after it that of a notice
 pub played :
-    (ws : List ℕ) (i : Item) (line₀ words line : List ℕ) (n status dword : ℕ) (bytes : List ℕ)
+    (ws : List ℕ) (i : Item) (line₀ words mid line : List ℕ) (m n status dword : ℕ) (bytes : List ℕ) (notice : Notice)
     → words ≡ stepWords ws i .table → status ≡ stepWords ws i .answer .status → dword ≡ stepWords ws i .answer .dword → bytes ≡ stepWords ws i .answer .bytes
-    → Put line₀ 0 (itemLine (record { status = status; dword = dword; bytes = bytes })) line n → Played ws (some i) line₀ n words line
-played ws i line₀ words line n status dword bytes t s d b p =
-    let a : itemLine (record { status = status; dword = dword; bytes = bytes }) ≡ itemLine (stepWords ws i .answer) = rw (s, d, b) in
-    record { table = t; text = p .bytes ∙ ap (sets line₀ 0) a; count = omega (arith, p .place, ap length a); within = p .within }
+    → notice ≡ stepWords ws i .notice → Put line₀ 0 (itemLine (record { status = status; dword = dword; bytes = bytes })) mid m
+    → Put mid m (noticeLine notice) line n → Played ws (some i) line₀ n words line
+played ws i line₀ words mid line m n status dword bytes notice t s d b e p q =
+    let a : itemLine (record { status = status; dword = dword; bytes = bytes }) ++ noticeLine notice ≡ lineFor ws (some i) = rw (s, d, b, e) in
+    let r = (then) line₀ mid line _ _ 0 m n p q in
+    record { table = t; text = r .bytes ∙ ap (sets line₀ 0) a; count = omega (arith, r .place, ap length a); within = r .within }
 
 -- where no buffer was lent there is no data
 none-taken : (n : ℕ) → take {A = ℕ} n [] ≡ []
@@ -70,27 +76,36 @@ none-cut : (n : ℕ) → cut [] 0 n ≡ []
 none-cut n = none-taken (n - 0)
 
 pub played-bare :
-    (ws : List ℕ) (i : Item) (r : Reply) (line₀ words line : List ℕ) (n : ℕ)
+    (ws : List ℕ) (i : Item) (r : Reply) (line₀ words mid line : List ℕ) (m n : ℕ)
     → Answered ws i [] r words []
-    → Put line₀ 0 (itemLine (record { status = r .status; dword = r .dword; bytes = [] })) line n → Played ws (some i) line₀ n words line
-played-bare ws i r line₀ words line n a p =
+    → Put line₀ 0 (itemLine (record { status = r .status; dword = r .dword; bytes = [] })) mid m → Put mid m (noticeLine (r .notice)) line n
+    → Played ws (some i) line₀ n words line
+played-bare ws i r line₀ words mid line m n a p e =
     let q = a .reply in
-    played ws i line₀ words line n (r .status) (r .dword) [] (a .table) (q .status) (q .dword) (sym (none-cut (r .len)) ∙ q .part) p
+    played ws i line₀ words mid line m n (r .status) (r .dword) [] (r .notice) (a .table) (q .status) (q .dword) (sym (none-cut (r .len)) ∙ q .part) (a .notice) p e
+
+-- the two numbers by which a notice is handed on are all of it
+notice-back : (x : Notice) → noticeOf (toldNo x) (toNo x) ≡ x
+notice-back Unsent = refl
+notice-back (To id) = refl
 
 pub played-handed :
-    (ws : List ℕ) (i : Item) (room : ℕ) (line₀ words line : List ℕ) (n status dword : ℕ) (part : List ℕ)
-    → Handed ws i room words status dword part
-    → Put line₀ 0 (itemLine (record { status = status; dword = dword; bytes = part })) line n → Played ws (some i) line₀ n words line
-played-handed ws i room line₀ words line n status dword part h p =
-    played ws i line₀ words line n status dword part (h .table) (h .status-is) (h .dword-is) (h .part-is) p
+    (ws : List ℕ) (i : Item) (room : ℕ) (line₀ words mid line : List ℕ) (m n status dword told to : ℕ) (part : List ℕ) (notice : Notice)
+    → Handed ws i room words status dword told to part → notice ≡ noticeOf told to
+    → Put line₀ 0 (itemLine (record { status = status; dword = dword; bytes = part })) mid m → Put mid m (noticeLine notice) line n
+    → Played ws (some i) line₀ n words line
+played-handed ws i room line₀ words mid line m n status dword told to part notice h en p e =
+    played ws i line₀ words mid line m n status dword part notice (h .table) (h .status-is) (h .dword-is) (h .part-is)
+    (en ∙ rw (h .told-is, h .to-is) (notice-back (stepWords ws i .notice))) p e
 
 pub played-answer :
-    (ws : List ℕ) (i : Item) (buffer handed : List ℕ) (r : Reply) (line₀ words line : List ℕ) (n : ℕ)
+    (ws : List ℕ) (i : Item) (buffer handed : List ℕ) (r : Reply) (line₀ words mid line : List ℕ) (m n : ℕ)
     → Answered ws i buffer r words handed
-    → Put line₀ 0 (itemLine (record { status = r .status; dword = r .dword; bytes = cut handed 0 (r .len) })) line n → Played ws (some i) line₀ n words line
-played-answer ws i buffer handed r line₀ words line n a p =
+    → Put line₀ 0 (itemLine (record { status = r .status; dword = r .dword; bytes = cut handed 0 (r .len) })) mid m
+    → Put mid m (noticeLine (r .notice)) line n → Played ws (some i) line₀ n words line
+played-answer ws i buffer handed r line₀ words mid line m n a p e =
     let q = a .reply in
-    played ws i line₀ words line n (r .status) (r .dword) (cut handed 0 (r .len)) (a .table) (q .status) (q .dword) (q .part) p
+    played ws i line₀ words mid line m n (r .status) (r .dword) (cut handed 0 (r .len)) (r .notice) (a .table) (q .status) (q .dword) (q .part) (a .notice) p e
 
 pub played-as :
     (ws : List ℕ) (i j : Item) (line₀ : List ℕ) (n : ℕ) (words line : List ℕ) → i ≡ j → Played ws (some i) line₀ n words line → Played ws (some j) line₀ n words line

@@ -2,6 +2,7 @@
 ghost use Prim.Native.Nat.{_+_, _≤_};
 ghost use lib.ListN.{length};
 ghost use Rattle.tape.specs.Text.{setsLine, endLine, badLine, itemLine, toldLine, noticeLine, noticeRoom, Put};
+ghost use Rattle.tape.specs.Pieces.{lineRoom};
 use crate::text::put_data;
 use crate::text::put_decimal;
 use crate::text::put_hex;
@@ -38,10 +39,10 @@ pub fn bad_line(line: &mut [u8; LINE], n: u64) -> usize
     put_text(line, b, b"\n")
 }
 
-// The line of an answer: its status, its dword 0 and, if given, its data.
+// The line of an answer: its status, its dword 0 and, if given, its data. It leaves room for that of a notice.
 pub(crate) fn item_line(line: &mut [u8; LINE], status: u16, dword: u32, bytes: &[u8]) -> usize
     requires { ⌜ length (now bytes) ≤ 4096 ⌝ }
-    ensures { λ r. ⌜ Put (now (line .entry)) 0 (itemLine (record { status = status; dword = dword; bytes = now (bytes .entry) })) (now (line .exit)) r ⌝ }
+    ensures { λ r. ⌜ Put (now (line .entry)) 0 (itemLine (record { status = status; dword = dword; bytes = now (bytes .entry) })) (now (line .exit)) r × (r + noticeRoom ≤ lineRoom) ⌝ }
 {
     let a = put_hex(line, 0, 4, status as u64);
     let b = put_text(line, a, b" ");
@@ -52,7 +53,7 @@ pub(crate) fn item_line(line: &mut [u8; LINE], status: u16, dword: u32, bytes: &
 
 // The line of a notice, after the item's own: the request's identifier and its dword 0. No notice, no line.
 pub(crate) fn notice_line(line: &mut [u8; LINE], at: usize, notice: Notice) -> usize
-    requires { ⌜ at + noticeRoom ≤ length (now line) ⌝ }
+    requires { ⌜ (at + noticeRoom ≤ lineRoom) × (at ≤ length (now line)) ⌝ }
     ensures { λ r. ⌜ Put (now (line .entry)) at (noticeLine notice) (now (line .exit)) r ⌝ }
 {
     match notice {
@@ -62,7 +63,7 @@ pub(crate) fn notice_line(line: &mut [u8; LINE], at: usize, notice: Notice) -> u
 }
 
 fn told_line(line: &mut [u8; LINE], at: usize, id: u16) -> usize
-    requires { ⌜ at + noticeRoom ≤ length (now line) ⌝ }
+    requires { ⌜ at + noticeRoom ≤ lineRoom ⌝ }
     ensures { λ r. ⌜ Put (now (line .entry)) at (toldLine id) (now (line .exit)) r ⌝ }
 {
     let a = put_hex(line, at, 4, id as u64);

@@ -5,7 +5,7 @@ use Rattle.table.proofs.LegalTables.{legal-known}
 use Rattle.commands.specs.declared.Kind.the-variants.{Identify}
 use Rattle.by_value.proofs.Passed.{view-fine}
 use Rattle.by_value.proofs.NamedCommands.{answered-bad}
-use Rattle.by_value.proofs.Viewed.{viewed-refused, viewed-whole, list-long}
+use Rattle.by_value.proofs.Viewed.{unqueued, viewed-refused, identified, list-long}
 use Rattle.card.proofs.commanded.answer_identify.Statement.{statement}
 use Rattle.card.proofs.commanded.answer_identify.Tie as tie
 
@@ -30,11 +30,11 @@ answer-identify-spec =
     let s = l .before .before .before .before in
     let f = view-fine Identify (s .args .c) (s .args .given) (length (s .args .answer .now)) _ (s .pre .0) (v .view-status .ensures) (t .if2 .taken) in
     λ i m.
-    viewed-whole _ i Identify (s .args .c) (s .args .given) (s .args .answer .now) m (sym (l .before .legal .ensures) ∙ l .if1 .taken) _ _ _ _ _ (v .view-status .ensures) (t .if2 .taken) refl (list-long _ _) (f .outward) (rw (q .asked-by .ensures) at (o .set-list-onto .ensures)) (c .give .ensures))
+    identified _ i (s .args .c) (s .args .given) (s .args .answer .now) m (sym (l .before .legal .ensures) ∙ l .if1 .taken) _ (unqueued Identify (s .args .c) (s .args .given) (length (s .args .answer .now)) (s .args .table .now) _ refl (v .view-status .ensures)) _ _ _ _ (t .if2 .taken) refl (list-long _ _) (f .outward) (rw (q .asked-by .ensures) at (o .set-list-onto .ensures)) (c .give .ensures))
     (λ c.
     let t = c .before in
     let v = t .before in
     let l = v .before in
     let s = l .before .before .before .before in
-    λ i m. viewed-refused _ i Identify (s .args .c) (s .args .given) (s .args .answer .now) m (sym (l .before .legal .ensures) ∙ l .if1 .taken) _ _ (v .view-status .ensures) (t .if2 .left) (c .refuse .ensures))
+    λ i m. viewed-refused _ i Identify (s .args .c) (s .args .given) (s .args .answer .now) m (sym (l .before .legal .ensures) ∙ l .if1 .taken) _ (unqueued Identify (s .args .c) (s .args .given) (length (s .args .answer .now)) (s .args .table .now) _ refl (v .view-status .ensures)) _ (t .if2 .left) (c .refuse .ensures))
     (λ c. let t = c .before in λ i m. answered-bad _ i _ _ (sym (t .before .legal .ensures) ∙ t .if1 .left) (c .refuse2 .ensures)))

@@ -2,6 +2,7 @@ use mathlib.Core.Path.{ap, _∙_}
 use borrow.Author.Needs.{needs}
 use Rattle.replies.specs.Answers.{refusing}
 use Rattle.steps.specs.Words.{entryNo}
+use Rattle.by_value.proofs.Told.{entered-desk}
 use Rattle.by_value.proofs.EventsAndTicks.{entered}
 use Rattle.by_value.proofs.NamedCommands.{named-bad, named-unknown, named-here}
 use Rattle.card.proofs.commanded.answer_named.Statement.{statement}
@@ -18,7 +19,7 @@ answer-named-spec =
     let m = c .before .before .before in
     let n = m .before .before in
     let s = n .before .before .before .before .before .before in
-    (s .pre .0, s .pre .1, s .pre .2, entered _ _ _ _ (n .enter .ensures) (m .e .given .1)))
+    (s .pre .0, s .pre .1, s .pre .2, entered _ _ _ _ (n .enter .ensures) (m .e .given .1), entered-desk _ _ _ _ (n .enter .ensures) (m .e .given .1)))
     (λ c. search needs)
     (λ c.
     let e = c .before .before .before .enum-told .given .1 in

@@ -21,7 +21,7 @@ command-spec =
     (is-named (s .bytes .now) (s .given .now) (length (s .answer .now)) _ _ (k .before .command-in .ensures) (k .kind-of .ensures) (sym (t .before .is-named .ensures) ∙ t .if1 .taken)))
     (λ c. search needs) (λ c. search needs)
     (λ c.
-    let a = c .before .before in
+    let a = c .before .before .before .before in
     let t = a .before .before .before in
     let k = t .before .before .before in
     let s = k .before .before .before .before .before .before .args in

@@ -8,5 +8,10 @@ play-tick-spec =
     tie.close
     (tie.spec
     (λ c. search needs) (λ c κs. search needs) (λ c. search needs) (λ c. search needs) (λ c. search needs)
-    (λ c κs. search needs) (λ c. search needs)
-    (λ c. played-answer _ _ _ _ _ _ _ _ _ (c .before .before .before .before .before .before .before .ticks .ensures) (c .item-line .ensures)))
+    (λ c κs. search needs)
+    (λ c κs. let l = c .before .item-line .ensures in (l .1, l .0 .within))
+    (λ c. search needs)
+    (λ c.
+    let l = c .before .before in
+    let t = l .before .before .before .before .before .before .before in
+    played-answer _ _ _ _ _ _ _ _ _ _ _ (t .ticks .ensures) (l .item-line .ensures .0) (c .notice-line .ensures)))

@@ -9,4 +9,9 @@ item-line-spec =
     (tie.spec
     (λ c κs. search needs) (λ c. search needs) (λ c κs. search needs) (λ c κs. search needs) (λ c κs. search needs)
     (λ c. search needs) (λ c κs. search needs)
-    (λ c. then _ _ _ _ _ _ _ _ (then _ _ _ _ _ _ _ _ (then _ _ _ _ _ _ _ _ (then _ _ _ _ _ _ _ _ (c .before .before .before .before .before .before .before .before .before .before .put-hex .ensures) (c .before .before .before .before .before .before .before .put-text .ensures)) (c .before .before .before .before .before .put-hex2 .ensures)) (c .before .before .before .put-data .ensures .0)) (c .put-text2 .ensures)))
+    (λ c.
+    let d = c .before .before .before in
+    let x = d .before .before in
+    let b = x .before .before in
+    let a = b .before .before .before in
+    (then _ _ _ _ _ _ _ _ (then _ _ _ _ _ _ _ _ (then _ _ _ _ _ _ _ _ (then _ _ _ _ _ _ _ _ (a .put-hex .ensures) (b .put-text .ensures)) (x .put-hex2 .ensures)) (d .put-data .ensures .0)) (c .put-text2 .ensures), search needs)))
