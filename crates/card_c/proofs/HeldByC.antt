@@ -7,6 +7,7 @@ use native.Mathlib.Omega.{arith}
 use borrow.Author.Tests.{leb-true}
 use lib.Dec.{lit<, leb}
 use lib.ListN.{length}
+use lib.Seq.{sets}
 use Rattle.octets.specs.Octets.{AllBytes}
 use Rattle.octets.specs.Words.{wordSize, AllWords}
 use Rattle.octets.proofs.InPlace.{put-over}
@@ -28,7 +29,9 @@ use Rattle.steps.proofs.StepOnWords.{step-legal}
 use Rattle.steps.proofs.WordsStay.{words-stay}
 use Rattle.steps.proofs.HeldHistories.{never-lost, demanded}
 use Rattle.steps.proofs.NewSets.{well, new-length, legal-set-up, granted-table}
+use Rattle.card_c.specs.Entries.{replySize}
 use Rattle.card_c.specs.HeldByC.{heldByC, SetUpLegalAtC, NoticeNeverLost, DemandAtC}
+use Rattle.card_c.proofs.Replies.{notice-left-out, notice-heard}
 
 -- what a step leaves is as long as what it found
 step-long : (ws : List ℕ) (i : Item) → legalTable ws ≡ true → length (stepWords ws i .table) ≡ length ws
@@ -45,7 +48,14 @@ c-steps =
       after = λ region l b after e u. u .2 .table;
       words-after = λ region l b after e u. ap tableIn (u .2 .table) ∙ step-in region (l .item) e (u .0) (u .1);
       said = λ region l b after u i. record { number = u .2 .status i; buffer = u .2 .answer i; said = u .2 .reply i };
-      told = λ l a. refl;
+      told = λ l a n. refl;
+      left-out = λ l a n i.
+          record {
+            number = a .status;
+            buffer = sets (l .before) 0 (a .bytes);
+            said = notice-left-out (l .reply) (a .dword) (length (a .bytes)) n i;
+          };
+      heard = λ l a n r s. notice-heard (l .reply) (a .dword) (length (a .bytes)) n (leb-true replySize (length (l .reply)) r) s;
       put-over = λ region ws vs e. put-over ws vs region 0 e;
     }
 
@@ -82,7 +92,7 @@ set-up-legal-at-c given region after number each every u z =
     let g = granted-table given ws s in
     let w = well given (length ws) _ refl (g .0) in
     let few : length (newSets given) < 2 ^ 64 = omega (arith, new-length given, leb-true (bodies given) maxSets (both (leb 1 (bodies given)) _ (w .range) .1)) in
-    let fit : AllWords (newTable given ws) = written-fit ws (newCard given) (words-in region each) few (new-fit given every (bodies given) 0 0 (w .legal)) in
+    let fit : AllWords (newTable given ws) = written-fit ws (newCard given) (words-in region each) few (new-fit given every (bodies given) 0 0 (w .legal)) refl in
     let long : length (newTable given ws) ≡ length region / wordSize = length-written ws (newCard given) ∙ length-in region in
     let back : tableIn after ≡ setUp given ws .table
     = ap tableIn (u .table ∙ ap (tableOut region) (g .1)) ∙ table-back region (newTable given ws) long fit ∙ sym (g .1) in

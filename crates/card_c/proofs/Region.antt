@@ -1,17 +1,20 @@
 -- The step on a region's words, in their place.
 use mathlib.Core.Path.{_≡_, refl, sym, ap, ap₂, _∙_}
-use mathlib.Core.Bool.{Bool, true, false, not, _&&_, and-false}
-use mathlib.Core.List.{List, []}
-use Prim.Native.Nat.{ℕ, _+_, _/_, _≤_}
+use mathlib.Core.Bool.{Bool, true, false, not, _&&_, _||_, and-false, or-assoc}
+use mathlib.Core.List.{List, [], map}
+use Prim.Native.Nat.{ℕ, _+_, _/_, _≤_, _<_}
 use native.Mathlib.Omega.{arith}
-use lib.ListN.{length}
+use lib.Dec.{eqb}
+use lib.ListN.{length, length-map}
 use lib.Seq.{sets}
+use Rattle.octets.specs.Choice.{if_then_else_}
 use Rattle.octets.specs.Octets.{AllBytes}
 use Rattle.octets.specs.Words.{wordSize}
 use Rattle.replies.specs.declared.Notice.{Notice}
+use Rattle.replies.specs.declared.Notice.the-variants.{Unsent}
 use Rattle.replies.specs.declared.Reply.{Reply}
-use Rattle.replies.specs.Answers.{done, besideOf}
-use Rattle.desk.specs.Desk.{Told, settle}
+use Rattle.replies.specs.Answers.{answered, done, besideOf, Replied}
+use Rattle.desk.specs.Desk.{Told, settle, lifted}
 use Rattle.record.specs.declared.Attributes.{Attributes}
 use Rattle.record.specs.declared.State.{State}
 use Rattle.record.specs.declared.Effect.{Effect}
@@ -25,24 +28,31 @@ use Rattle.rules.specs.Rules.{still, clearingRead, mediaRule}
 use Rattle.rules.proofs.Staying.{KeepsConfig}
 use Rattle.table.specs.declared.Entry.{Entry}
 use Rattle.table.specs.declared.Entry.the-variants.{Here}
-use Rattle.table.specs.Layout.{wordsOf}
+use Rattle.table.specs.Layout.{wordsOf, recordOf}
 use Rattle.table.specs.Card.{headerWords}
-use Rattle.table.specs.Table.{deskAt, withDesk, DeskThere, Tells, rowStart, row, put, enterIn}
+use Rattle.table.specs.Table.{deskAt, withDesk, DeskThere, Tells, rowStart, row, recordsOf, Legal, legalTable, put, enterIn}
 use Rattle.table.proofs.Records.{row-of, length-words}
 use Rattle.table.proofs.Written.{put-own}
-use Rattle.table.proofs.LegalTables.{legal-known, slot-legal, is-here}
+use Rattle.table.proofs.LegalTables.{legal-known, length-records, slot-legal, is-here}
+use Rattle.table.proofs.Turns.{later-more}
 use Rattle.region.specs.Region.{tableIn, tableOut, recordAt, withRecord, LegalAt, Moved, Silent, TellsAt}
 use Rattle.region.proofs.Words.{length-in, own-region}
+use Rattle.region.proofs.EveryRow.{Undone, undone-row}
 use Rattle.region.proofs.AtDesk.{stored-there, told-words, told-region}
 use Rattle.commands.specs.declared.Command.{Command}
 use Rattle.commands.specs.declared.Kind.{Kind}
-use Rattle.steps.specs.Items.{Item, itemOf}
-use Rattle.steps.specs.Words.{Answered}
+use Rattle.commands.specs.declared.Kind.the-variants.{ReadAggregate}
+use Rattle.commands.specs.Commands.{retain}
+use Rattle.steps.specs.Items.{Item, Nobody, itemOf}
+use Rattle.steps.specs.Commanded.{aggregateOf, askedOf, viewed}
+use Rattle.steps.specs.Meanings.{meaning}
+use Rattle.steps.specs.Words.{cardOf, Answered}
 use Rattle.by_value.specs.OnSet.{tableOn, OnSet}
 use Rattle.steps.proofs.AtDesk.{new-self}
 use Rattle.steps.proofs.StepOnWords.{here}
-use Rattle.by_value.proofs.Told.{entered-desk}
+use Rattle.by_value.proofs.Told.{entered-desk, listing}
 use Rattle.by_value.proofs.EventsAndTicks.{event-here}
+use Rattle.by_value.proofs.Viewed.{viewStatus, aggregate-read}
 use Rattle.card_c.specs.Entries.{replyPart, AnsweredAtC}
 use Rattle.card_c.specs.InPlace.{ruledBy, RuledAt, AnswerAtC, OnSetAtC}
 
@@ -132,6 +142,13 @@ pub answer-out :
     → AnswerAtC region i before r after buffer
 answer-out region i before r words after buffer s e = record { table = e ∙ ap (tableOut region) (s .table); reply = s .reply; notice = s .notice }
 
+-- a region that is left as it is, unless the words change
+either-out :
+    (region : List ℕ) → AllBytes region → (b : Bool) (ws after : List ℕ) → after ≡ (if b then tableOut region ws else region)
+    → after ≡ tableOut region (if b then ws else tableIn region)
+either-out region each true ws after e = e
+either-out region each false ws after e = e ∙ sym (own-region region each)
+
 pub answer-same :
     (region : List ℕ) (i : Item) (before : List ℕ) (r : Reply) (buffer : List ℕ) → AllBytes region → Answered (tableIn region) i before r (tableIn region) buffer
     → AnswerAtC region i before r region buffer
@@ -154,16 +171,37 @@ entered-there region id e s known q = entered-desk (tableIn region) id e s known
 pub event-out :
     (region : List ℕ) (id : ℕ) (m : Media) (e : Entry) → e ≡ enterIn (tableIn region) id → (x : Reply) (s : Slot) → e ≡ Here s → AllBytes region
     → (stored : List ℕ) (new : Bool) → RuledAt (mediaRule m) region (s .0) stored new → (after : List ℕ) (n : Notice)
-    → TellsAt stored (settle new (deskAt (tableIn stored))) after n → x ≡ besideOf done n → AnswerAtC region (itemOf id m) [] x after []
-event-out region id m e known x s q each stored new r after n h ex =
+    → TellsAt stored (settle new (deskAt (tableIn stored))) after n → (z : Reply) → z ≡ done → x ≡ besideOf z n
+    → AnswerAtC region (itemOf id m) [] x after []
+event-out region id m e known x s q each stored new r after n h z ez ex =
     let ws = tableIn region in
     let l = entered-at region id e s known q in
     let y = ruledBy (mediaRule m) (recordAt region (s .0)) in
     let t = entered-there region id e s known q in
     answer-out region (itemOf id m) [] x _ after []
-    (event-here ws id m e known x s q (recordAt region (s .0)) y (put ws (s .0) (wordsOf y)) _ new n refl refl refl (r .listed)
-    (stored-told region (s .0) y each l t stored (r .table) new after n h) ex)
+    (event-here ws id m e known x s q (recordAt region (s .0)) y (put ws (s .0) (wordsOf y)) _ new n z refl refl refl (r .listed)
+    (stored-told region (s .0) y each l t stored (r .table) new after n h) ez ex)
     (stored-out region (s .0) y each l t stored (r .table) new after n h)
+
+-- ---- ticks
+
+-- the rows of a legal table lie in its region, and a rule on each of them makes as many
+pub ticked-room :
+    (region : List ℕ) (f : Record → Record) → Legal (tableIn region) → rowStart (length (map f (recordsOf (tableIn region)))) ≤ length region / wordSize
+ticked-room region f l =
+    let e : length (map f (recordsOf (tableIn region))) ≡ length (recordsOf (tableIn region)) = simp length-map in
+    omega (arith, e, length-records (tableIn region), l .room, length-in region)
+
+-- whether some set was listed, asked row after row: those still to be done are as they were at the start
+pub listing-turn :
+    (f : Record → Record) (b₀ : List ℕ) (n : ℕ) (b : List ℕ) (i : ℕ) → rowStart n ≤ length b₀ / wordSize → i < n → Undone f b₀ n b i → (new goal : Bool)
+    → listing f (tableIn b₀) n i new ≡ goal → (found : Bool) → found ≡ newlyListed (recordAt b i) (f (recordAt b i))
+    → listing f (tableIn b₀) n (i + 1) (new || found) ≡ goal
+listing-turn f b₀ n b i room h u new goal inv found ef =
+    let same : recordAt b i ≡ recordAt b₀ i = ap recordOf (undone-row f b₀ n b i room h u) in
+    let q : listing f (tableIn b₀) n (i + 1) (new || newlyListed (recordAt b₀ i) (f (recordAt b₀ i))) ≡ goal
+    = or-assoc new _ _ ∙ (rw (later-more (tableIn b₀) n i h) at inv) in
+    rw (ef, same) q
 
 -- ---- commands
 
@@ -177,6 +215,21 @@ pub on-in :
     → OnSetAtC region slot k c given before r after buffer
     → OnSet (tableIn region) slot k c given before r (tableOn (tableIn region) slot k c given (length before) (recordAt region slot)) buffer
 on-in region slot k c given before r after buffer o = record { table = refl; reply = o .reply; notice = o .notice }
+
+-- page 0Bh: the desk after it in its place, or the region as it is
+module _ (region : List ℕ) (i : Item) (c : Command) (given : ℕ) (before : List ℕ) (m : meaning i ≡ Nobody (viewed ReadAggregate c given (length before)))
+    (e : legalTable (tableIn region) ≡ true) (s : ℕ) (es : s ≡ viewStatus ReadAggregate c given (length before) (tableIn region)) (bytes : List ℕ) where
+  pub aggregate-out :
+      (y x : Reply) (buffer after : List ℕ) → bytes ≡ askedOf ReadAggregate c (aggregateOf c (cardOf (tableIn region)))
+      → Replied (answered s 0 bytes) before y buffer → x ≡ besideOf y Unsent → AllBytes region
+      → after ≡ (if eqb s 0 && not (retain c) then tableOut region (withDesk (tableIn region) (lifted (deskAt (tableIn region)))) else region)
+      → AnswerAtC region i before x after buffer
+  aggregate-out y x buffer after eb p ex each ev =
+      let ws = withDesk (tableIn region) (lifted (deskAt (tableIn region))) in
+      let b = eqb s 0 && not (retain c) in
+      answer-out region i before x (if b then ws else tableIn region) after buffer
+      (aggregate-read (tableIn region) i c given before m e s es bytes y x buffer (if b then ws else tableIn region) eb p ex refl)
+      (either-out region each b ws after ev)
 
 -- a reply, as bytes
 pub answered-at :

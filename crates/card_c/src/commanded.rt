@@ -168,7 +168,13 @@ fn lift_if(region: &mut [u8], lifts: bool)
 }
 
 // Page 0Bh: with Retain 0 it lifts the mask and drops the flag. That sends no notice.
-fn answer_aggregate(region: &mut [u8], c: Command, early: u16, given: usize, answer: &mut [u8]) -> Reply
+fn answer_aggregate(
+    region: &mut [u8],
+    c: Command,
+    early: u16,
+    given: usize,
+    answer: &mut [u8],
+) -> Reply
     requires { ⌜ (Kind.ReadAggregate ≡ kindOf c) × (early ≡ firstOf (earlyLines c)) ⌝ }
     ensures { λ r. ⌜ ((i : Item) → meaning i ≡ Nobody (viewed Kind.ReadAggregate c given (length (now (answer .entry)))) → AnswerAtC (now (region .entry)) i (now (answer .entry)) r (now (region .exit)) (now (answer .exit))) ⌝ }
 {

@@ -25,7 +25,13 @@ fn reply_page(dword: u32, len: usize, notice: Notice) -> [u8; REPLY]
     let mut page = [0u8; REPLY];
     octets::fill(
         &mut page,
-        &[[0, 4, dword], [4, 4, len], [8, 2, told], [10, 2, to], [12, 4, word]],
+        &[
+            [0, 4, dword],
+            [4, 4, len],
+            [8, 2, told],
+            [10, 2, to],
+            [12, 4, word],
+        ],
     );
     page
 }

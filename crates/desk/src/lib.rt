@@ -49,7 +49,15 @@ pub fn legal(a: [u64; DESK]) -> bool
     let third = place_legal(2 < n, a[6]);
     let fourth = place_legal(3 < n, a[7]);
     let late = served_late(a);
-    (a[0] <= 1) & (a[1] <= 1) & (a[2] <= 1) & (n <= REQUESTS) & first & second & third & fourth & !late
+    (a[0] <= 1)
+        & (a[1] <= 1)
+        & (a[2] <= 1)
+        & (n <= REQUESTS)
+        & first
+        & second
+        & third
+        & fourth
+        & !late
 }
 
 // ---- what commands do

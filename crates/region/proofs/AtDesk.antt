@@ -14,16 +14,18 @@ use Rattle.octets.proofs.Runs.{sets-comm, part-other}
 use Rattle.octets.proofs.WordBytes.{length-put-words}
 use Rattle.octets.proofs.InPlace.{put-bytes, put-over, words-comm, words-before}
 use Rattle.replies.specs.declared.Notice.{Notice}
+use Rattle.record.specs.declared.Record.{Record}
 use Rattle.desk.specs.Desk.{Desk, raisedBy, settle, legalDesk}
 use Rattle.desk.specs.Words.{deskSize, deskWords, deskLegal}
 use Rattle.desk.proofs.LegalDesks.{fine}
 use Rattle.desk.proofs.Sending.{few, send-legal}
 use Rattle.table.specs.Card.{headerWords, deskStart}
-use Rattle.table.specs.Table.{deskPart, deskAt, withDesk, DeskThere, Tells}
+use Rattle.table.specs.Table.{rowStart, writtenRows, deskPart, deskAt, withDesk, DeskThere, Tells}
 use Rattle.table.proofs.Desks.{desk-legal, same-desk}
 use Rattle.table.proofs.WordsFit.{desk-fit}
 use Rattle.region.specs.Region.{tableIn, tableOut, TellsAt}
 use Rattle.region.proofs.Words.{length-in, words-in, part-in, run-out, table-back}
+use Rattle.region.proofs.EveryRow.{flat, length-flat, all-flat}
 
 -- a desk that was legal is so after it is told
 told-legal : (new : Bool) (d : Desk) → legalDesk d ≡ true → legalDesk (settle new d .desk) ≡ true
@@ -94,3 +96,25 @@ module _ (b xs : List ℕ) (k : ℕ) (each : AllBytes b) (past : headerWords ≤
         ∙ ap (λ (d : Desk). tableOut stored (withDesk (tableIn stored) (settle new d .desk))) both-desks
         ∙ desk-over (settle new (deskAt rowed) .desk)
         (told-legal new (deskAt rowed) (ap legalDesk (same-desk (tableIn b) rowed rowed-same) ∙ desk-legal (tableIn b) t))
+
+-- the same of all rows at once
+module _ (b : List ℕ) (rs : List Record) (each : AllBytes b) (room : rowStart (length rs) ≤ length b / wordSize) (t : DeskThere (tableIn b)) where
+  within : rowStart 0 + length (flat rs) ≤ length b / wordSize
+  within = omega (arith, length-flat rs, room)
+
+  abbrev us : List ℕ
+  us = writtenRows (tableIn b) rs
+
+  module _ (stored : List ℕ) (e : stored ≡ tableOut b us) where
+    pub rows-there : DeskThere (tableIn stored)
+    rows-there = rw (e, all-flat (tableIn b) rs) (stored-there b (flat rs) (rowStart 0) each (omega arith) within t)
+
+    module _ (new : Bool) (after : List ℕ) (n : Notice) (h : TellsAt stored (settle new (deskAt (tableIn stored))) after n) where
+      flat-told : TellsAt (tableOut b (sets (tableIn b) (rowStart 0) (flat rs))) (settle new (deskAt (tableIn (tableOut b (sets (tableIn b) (rowStart 0) (flat rs)))))) after n
+      flat-told = rw (e, all-flat (tableIn b) rs) at h
+
+      pub rows-told : Tells us (settle new (deskAt us)) (withDesk us (settle new (deskAt us) .desk)) n
+      rows-told = rw (all-flat (tableIn b) rs) (told-words b (flat rs) (rowStart 0) each (omega arith) within new after n t flat-told)
+
+      pub rows-region : after ≡ tableOut b (withDesk us (settle new (deskAt us) .desk))
+      rows-region = rw (all-flat (tableIn b) rs) (told-region b (flat rs) (rowStart 0) each (omega arith) within new after n t flat-told)

@@ -23,11 +23,11 @@ use Rattle.region.proofs.Words.{row-in, row-out, length-in}
 
 -- ---- all of them are one run of words
 
-abbrev flat : List Record → List ℕ
+abbrev pub flat : List Record → List ℕ
 flat [] = []
 flat (r ∷ rs) = wordsOf r ++ flat rs
 
-length-flat : (rs : List Record) → length (flat rs) ≡ length rs * rowWords
+pub length-flat : (rs : List Record) → length (flat rs) ≡ length rs * rowWords
 length-flat [] = refl
 length-flat (r ∷ rs) =
     let e = length-append (wordsOf r) (flat rs) in
@@ -53,15 +53,18 @@ written-flat ws slot (r ∷ rs) =
     ∙ ap (λ (k : ℕ). sets (put ws slot (wordsOf r)) k (flat rs)) e
     ∙ sets-join (wordsOf r) (flat rs) ws (rowStart slot)
 
-pub rows-out : (b : List ℕ) (rs : List Record) → AllBytes b → rowStart (length rs) ≤ length b / wordSize → withRecords b 0 rs ≡ tableOut b (writtenRows (tableIn b) rs)
+pub all-flat : (ws : List ℕ) (rs : List Record) → writtenRows ws rs ≡ sets ws (rowStart 0) (flat rs)
 unfolding writtenRows
+all-flat ws rs = written-flat ws 0 rs
+
+pub rows-out : (b : List ℕ) (rs : List Record) → AllBytes b → rowStart (length rs) ≤ length b / wordSize → withRecords b 0 rs ≡ tableOut b (writtenRows (tableIn b) rs)
 rows-out b rs each h =
     let n = length-flat rs in
     let e : rowStart 0 * wordSize ≡ 0 + rowStart 0 * wordSize = omega arith in
     put-flat b 0 rs
     ∙ ap (λ (k : ℕ). putWords b k (flat rs)) e
     ∙ sym (put-within (flat rs) b 0 (length b / wordSize) (rowStart 0) each (omega (arith, n)) (omega arith))
-    ∙ ap (tableOut b) (sym (written-flat (tableIn b) 0 rs))
+    ∙ ap (tableOut b) (sym (all-flat (tableIn b) rs))
 
 -- the same with the header in front
 pub card-out :

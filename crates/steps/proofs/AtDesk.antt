@@ -90,7 +90,7 @@ does (command bytes given room) d = by-kind (kindOf (commandIn bytes)) (commandI
 not-full : (b : Bool) (n : ℕ) → leb requestsMaximum n ≡ b → b ≡ false → n < requestsMaximum
 not-full b n e h = leb-false requestsMaximum n (e ∙ h)
 
-request-few :
+pub request-few :
     (c : Command) (given room : ℕ) (ws : List ℕ) → firstOf (viewLines EventRequest c given room (length ws)) ≡ 0 → length ws < requestsMaximum
 request-few c given room ws z =
     let e = early-passed c (shortLine EventRequest c given room ∷ requestLine EventRequest (length ws) ∷ []) refl z in

@@ -13,10 +13,10 @@ one-answer ws i before r q v w x y h k =
 
 pub one-handed : OneHanded
 one-handed ws i room v w s t d e m n x y p q h k = (
-      h .table ∙ sym (k .table),
-      h .status-is ∙ sym (k .status-is),
-      h .dword-is ∙ sym (k .dword-is),
-      h .told-is ∙ sym (k .told-is),
-      h .to-is ∙ sym (k .to-is),
-      h .part-is ∙ sym (k .part-is),
-    )
+  h .table ∙ sym (k .table),
+  h .status-is ∙ sym (k .status-is),
+  h .dword-is ∙ sym (k .dword-is),
+  h .told-is ∙ sym (k .told-is),
+  h .to-is ∙ sym (k .to-is),
+  h .part-is ∙ sym (k .part-is),
+)

@@ -126,7 +126,7 @@ module _ (H : Holder) (S : Steps H) where
       let b = S .said (last H h cs) (d .lent) (d .back) (d .held) p in
       let s : answer (run (cardOf ws) (items H cs)) i .status ≡ 0 = ap (λ (x : Answer). x .status) (sym a) ∙ sym (S .told (d .lent) _ _) ∙ sym (ap (H .status) b) ∙ z in (
         left-out (last H h cs) d p
-        ∙ ap (λ (x : Answer). H .shows (d .lent) x Unsent) (a ∙ aggregate-log (cardOf ws) (items H cs) bytes given room k (not-refused (run (cardOf ws) (items H cs)) i s)),
+            ∙ ap (λ (x : Answer). H .shows (d .lent) x Unsent) (a ∙ aggregate-log (cardOf ws) (items H cs) bytes given room k (not-refused (run (cardOf ws) (items H cs)) i s)),
         in-order (cardOf ws) (items H cs) (sets-known ws (legal-known ws e)),
       )
 

@@ -25,7 +25,7 @@ words-steps =
 pub words-demand : WordsDemand
 words-demand = demanded heldWords words-steps
 
-notice-back : (n : Notice) → noticeOf (toldNo n) (toNo n) ≡ n
+pub notice-back : (n : Notice) → noticeOf (toldNo n) (toNo n) ≡ n
 notice-back Unsent = refl
 notice-back (To id) = refl
 

@@ -1,10 +1,8 @@
 use mathlib.Core.Path.{sym, _∙_}
-use Prim.Native.Nat.{ℕ}
-use borrow.Author.Needs.{needs}
 use lib.ListN.{length}
 use Rattle.steps.specs.Items.{command}
 use Rattle.by_value.proofs.Viewed.{is-named, is-viewed}
-use Rattle.card_c.proofs.Region.{answer-same}
+use borrow.Author.Needs.{needs}
 use Rattle.card_c.proofs.commanded.command.Statement.{statement}
 use Rattle.card_c.proofs.commanded.command.Tie as tie
 
@@ -12,22 +10,10 @@ pub command-spec : {M : Type 1} → statement M
 command-spec =
     tie.close
     (tie.spec
-    (λ c κs. search needs) (λ c κs. search needs) (λ c κs. search needs) (λ c κs. search needs) (λ c κs. search needs)
-    (λ c κs. search needs) (λ c. search needs) (λ c. search needs)
-    (λ c.
-    let a = c .before .before .before .before in
-    let t = a .before .before .before in
-    let k = t .before .before .before in
-    let s = k .before .before .before .before .before .before .args in
-    a .answer-named .ensures (command (s .bytes .now) (s .given .now) (length (s .answer .now)))
-    (is-named (s .bytes .now) (s .given .now) (length (s .answer .now)) _ _ (k .before .command-in .ensures) (k .kind-of .ensures) (sym (t .before .is-named .ensures) ∙ t .if1 .taken)))
+    (λ c κs. search needs) (λ c κs. search needs) (λ c κs. search needs) (λ c κs. search needs) (λ c κs. search needs) (λ c κs. search needs) (λ c. search needs) (λ c. search needs)
+    (λ c. let s = c .before .before .before .before .before .before .before .before .before .before .before .before .before .before .before .before .args in c .before .before .before .before .answer-named .ensures (command (s .bytes .now) (s .given .now) (length (s .answer .now)))
+    (is-named (s .bytes .now) (s .given .now) (length (s .answer .now)) _ _ (c .before .before .before .before .before .before .before .before .before .before .before .command-in .ensures) (c .before .before .before .before .before .before .before .before .before .before .kind-of .ensures) (sym (c .before .before .before .before .before .before .before .before .is-named .ensures) ∙ c .before .before .before .before .before .before .before .if1 .taken)))
     (λ c. search needs) (λ c. search needs)
-    (λ c.
-    let a = c .before .before in
-    let t = a .before .before .before in
-    let k = t .before .before .before in
-    let r = k .before .before .before .before .before in
-    let s = r .before .args in
-    answer-same (s .region .now) (command (s .bytes .now) (s .given .now) (length (s .answer .now))) (s .answer .now) _ _ (λ (i : ℕ). r .slice-known .given i .fits)
-    (a .answer-view .ensures (command (s .bytes .now) (s .given .now) (length (s .answer .now)))
-    (is-viewed (s .bytes .now) (s .given .now) (length (s .answer .now)) _ _ (k .before .command-in .ensures) (k .kind-of .ensures) (sym (t .before .is-named .ensures) ∙ t .if1 .left)))))
+    (λ c. let s = c .before .before .before .before .before .before .before .before .before .before .before .before .before .before .before .before .args in c .before .before .before .before .answer-view .ensures (command (s .bytes .now) (s .given .now) (length (s .answer .now)))
+    (is-viewed (s .bytes .now) (s .given .now) (length (s .answer .now)) _ _ (c .before .before .before .before .before .before .before .before .before .before .before .command-in .ensures) (c .before .before .before .before .before .before .before .before .before .before .kind-of .ensures) (sym (c .before .before .before .before .before .before .before .before .is-named .ensures) ∙ c .before .before .before .before .before .before .before .if1 .left)))
+    )

@@ -1,9 +1,9 @@
 use mathlib.Core.Path.{refl, sym, ap, _∙_}
 use Prim.Native.Nat.{ℕ}
-use borrow.Author.Needs.{needs}
 use Rattle.rules.specs.Rules.{clearingRead}
 use Rattle.region.specs.Region.{recordAt, withRecord}
-use Rattle.card_c.proofs.Region.{is-moved, not-stored}
+use Rattle.card_c.proofs.Region.{is-moved, not-stored, lists-still, lists-cleared}
+use borrow.Author.Needs.{needs}
 use Rattle.card_c.proofs.commanded.read_at.Statement.{statement}
 use Rattle.card_c.proofs.commanded.read_at.Tie as tie
 
@@ -12,20 +12,9 @@ read-at-spec =
     tie.close
     (tie.spec
     (λ c κs. search needs)
-    (λ c.
-    let k = c .before .before in
-    let s = k .before in
-    λ given. rw (sym (c .before .retains .ensures) ∙ c .if1 .taken) (not-stored (s .args .region .now) (s .args .slot .0) (s .args .r) (s .pre .0) (λ (i : ℕ). k .slice-known .given i .fits) (s .pre .1)))
+    (λ c. let s = c .before .before .before .args in λ given. rw (sym (c .before .retains .ensures) ∙ c .if1 .taken) (not-stored (s .region .now) (s .slot .0) (s .r) (c .before .before .before .pre .0) (λ (i : ℕ). c .before .before .slice-known .given i .fits) (c .before .before .before .pre .1), lists-still (s .r)))
     (λ c κs. search needs)
-    (λ c κs.
-    let s = c .before .before .before .before .before in
-    (s .pre .0, is-moved (recordAt (s .args .region .now) (s .args .slot .0)) (s .args .r) (clearingRead (s .args .r .state)) _ (s .pre .1) refl (c .after-clearing .ensures)))
+    (λ c κs. let s = c .before .before .before .before .before .args in (c .before .before .before .before .before .pre .0, is-moved (recordAt (s .region .now) (s .slot .0)) (s .r) (clearingRead (s .r .state)) _ (c .before .before .before .before .before .pre .1) refl (c .after-clearing .ensures)))
     (λ c. search needs)
-    (λ c.
-    let w = c .before .before in
-    let x = w .before in
-    let b = x .before .before in
-    let s = b .before .before .before in
-    λ given.
-    w .store-moved .ensures
-    ∙ ap (withRecord (s .args .region .now) (s .args .slot .0)) (x .after-clearing .ensures ∙ rw (sym (b .before .retains .ensures) ∙ b .if1 .left))))
+    (λ c. let s = c .before .before .before .before .before .before .before .before .args in λ given. rw (sym (c .before .before .before .before .before .before .retains .ensures) ∙ c .before .before .before .before .before .if1 .left) (c .before .before .store-moved .ensures ∙ ap (withRecord (s .region .now) (s .slot .0)) (c .before .before .before .after-clearing .ensures), lists-cleared (s .r)))
+    )

@@ -1,7 +1,8 @@
-use mathlib.Core.Path.{sym, ap, _∙_}
-use borrow.Author.Needs.{needs}
+use mathlib.Core.Path.{sym, ap, ap₂, _∙_}
+use Rattle.record.specs.Event.{newlyListed}
 use Rattle.region.specs.Region.{recordAt, withRecord}
-use Rattle.card_c.proofs.Region.{is-moved, is-silent}
+use Rattle.card_c.proofs.Region.{is-moved, is-silent, lists-none}
+use borrow.Author.Needs.{needs}
 use Rattle.card_c.proofs.media.store_effect.Statement.{statement}
 use Rattle.card_c.proofs.media.store_effect.Tie as tie
 
@@ -10,23 +11,11 @@ store-effect-spec =
     tie.close
     (tie.spec
     (λ c κs. search needs) (λ c κs. search needs)
-    (λ c κs.
-    let t = c .before .before in
-    let s = t .before .before .before in
-    let p = s .pre in
-    (p .0, is-silent (recordAt (s .args .region .now) (s .args .slot .0)) (s .args .r) (s .args .e) _ (p .1) (p .2) (c .settle .ensures) (sym (t .before .is-silent .ensures) ∙ t .if1 .taken)))
+    (λ c κs. let s = c .before .before .before .before .before .args in let p = c .before .before .before .before .before .pre in (p .0, is-silent (recordAt (s .region .now) (s .slot .0)) (s .r) (s .e) _ (p .1) (p .2) (c .settle .ensures) (sym (c .before .before .before .is-silent .ensures) ∙ c .before .before .if1 .taken)))
+    (λ c. search needs)
+    (λ c. let s = c .before .before .before .before .before .before .before .before .args in let p = c .before .before .before .before .before .before .before .before .pre in (c .before .before .store-silent .ensures ∙ ap (withRecord (s .region .now) (s .slot .0)) (c .before .before .before .settle .ensures), lists-none (recordAt (s .region .now) (s .slot .0)) (s .r) (s .e) _ (p .1) (p .2) (c .before .before .before .settle .ensures) (sym (c .before .before .before .before .before .before .is-silent .ensures) ∙ c .before .before .before .before .before .if1 .taken)))
     (λ c κs. search needs)
-    (λ c κs.
-    let s = c .before .before .before .before .before in
-    let p = s .pre in
-    (p .0, is-moved (recordAt (s .args .region .now) (s .args .slot .0)) (s .args .r) (s .args .e) _ (p .1) (p .2) (c .settle2 .ensures)))
-    (λ c. search needs)
-    (λ c.
-    let p = c .before .before in
-    let s = p .before .before .before .before .before .before in
-    p .store-silent .ensures ∙ ap (withRecord (s .args .region .now) (s .args .slot .0)) (p .before .settle .ensures))
-    (λ c. search needs)
-    (λ c.
-    let p = c .before .before in
-    let s = p .before .before .before .before .before .before in
-    p .store-moved .ensures ∙ ap (withRecord (s .args .region .now) (s .args .slot .0)) (p .before .settle2 .ensures)))
+    (λ c κs. let s = c .before .before .before .before .before .args in let p = c .before .before .before .before .before .pre in (p .0, is-moved (recordAt (s .region .now) (s .slot .0)) (s .r) (s .e) _ (p .1) (p .2) (c .before .settle2 .ensures)))
+    (λ c κs. search needs) (λ c. search needs)
+    (λ c. let s = c .before .before .before .before .before .before .before .before .before .args in (c .before .before .before .store-moved .ensures ∙ ap (withRecord (s .region .now) (s .slot .0)) (c .before .before .before .before .before .settle2 .ensures), c .newly-listed .ensures ∙ ap (newlyListed (s .r)) (c .before .before .before .before .before .settle2 .ensures)))
+    )

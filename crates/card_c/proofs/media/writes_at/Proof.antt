@@ -1,9 +1,9 @@
-use mathlib.Core.Path.{ap, _∙_}
-use borrow.Author.Needs.{needs}
+use mathlib.Core.Path.{refl}
 use Rattle.rules.specs.Rules.{writeEvent}
 use Rattle.rules.proofs.Staying.{write-stays}
-use Rattle.region.specs.Region.{recordAt, withRecord}
-use Rattle.card_c.proofs.Region.{stays, is-ruled}
+use Rattle.region.specs.Region.{recordAt}
+use Rattle.card_c.proofs.Region.{stays, ruled-at}
+use borrow.Author.Needs.{needs}
 use Rattle.card_c.proofs.media.writes_at.Statement.{statement}
 use Rattle.card_c.proofs.media.writes_at.Tie as tie
 
@@ -12,16 +12,7 @@ writes-at-spec =
     tie.close
     (tie.spec
     (λ c κs. search needs) (λ c κs. search needs)
-    (λ c κs.
-    let l = c .before .before .before .before in
-    let s = l .before .before .before in
-    (s .pre, l .load .ensures, stays (writeEvent (s .args .k)) (recordAt (s .args .region .now) (s .args .slot .0)) _ _ (l .load .ensures) (c .write-event .ensures) (write-stays (s .args .k))))
+    (λ c κs. let s = c .before .before .before .before .before .before .before .args in (c .before .before .before .before .before .before .before .pre, c .before .before .before .before .load .ensures, stays (writeEvent (s .k)) (recordAt (s .region .now) (s .slot .0)) _ _ (c .before .before .before .before .load .ensures) (c .write-event .ensures) (write-stays (s .k))))
     (λ c. search needs)
-    (λ c.
-    let p = c .before .before in
-    let e = p .before in
-    let l = e .before .before .before .before in
-    let s = l .before .before .before in
-    let b = s .args .region .now in
-    let i = s .args .slot .0 in
-    p .store-effect .ensures ∙ ap (withRecord b i) (is-ruled (writeEvent (s .args .k)) (recordAt b i) _ _ (l .load .ensures) (e .write-event .ensures))))
+    (λ c. let s = c .before .before .before .before .before .before .before .before .before .before .args in ruled-at (writeEvent (s .k)) (recordAt (s .region .now) (s .slot .0)) _ _ (c .before .before .before .before .before .before .before .load .ensures) (c .before .before .before .write-event .ensures) (s .region .now) (s .slot .0) _ _ refl (c .before .before .store-effect .ensures))
+    )
