@@ -16,8 +16,8 @@
  * The numbers are status type x 256 + status code, as bits 27:17 of a completion's dword 3 hold them. Where several hold, the first of this
  * order is returned: of set-up CARD_BAD_SET_UP, CARD_TOO_SHORT; of a media event CARD_BAD_TABLE, CARD_UNKNOWN_SET; of a tick
  * CARD_BAD_TABLE, CARD_LONG_TICK; of a command
- *   CARD_BAD_TABLE, CARD_BAD_COMMAND, CARD_INVALID_OPCODE, CARD_TOO_MANY_REQUESTS, CARD_INVALID_FIELD (feature or CNS),
- *   CARD_INVALID_LOG_PAGE, CARD_NOT_SAVEABLE, CARD_INVALID_FIELD (all else), CARD_TOO_SHORT, CARD_TOO_EARLY.
+ *   CARD_BAD_TABLE, CARD_BAD_COMMAND, CARD_INVALID_OPCODE, CARD_INVALID_FIELD (feature or CNS), CARD_INVALID_LOG_PAGE,
+ *   CARD_NOT_SAVEABLE, CARD_INVALID_FIELD (all else), CARD_TOO_SHORT, CARD_TOO_EARLY, CARD_TOO_MANY_REQUESTS.
  *
  * Notices. A host that does not want to poll page 0Bh sends Asynchronous Event Requests, up to CARD_MAX_WAITING, and turns notices on
  * (CARD_FEATURE_EVENTS). Each request is answered CARD_WAITING: it is kept in the table and completed later. The firmware does not
@@ -150,16 +150,16 @@ uint16_t card_set_up(uint8_t *table, size_t table_len, const uint8_t *bodies, si
  * Asynchronous Event Request.
  *
  * command: the 64 bytes of the submission queue entry. NSID, data pointers and reserved fields are not looked at. The command
- *          identifier, bytes 3:2, is looked at only in an Asynchronous Event Request, where nothing else is; any will do, also one that
- *          waits already.
+ *          identifier, bytes 3:2, is looked at only in an Asynchronous Event Request, of which nothing else but the opcode is; any will
+ *          do, also one that waits already.
  * data:    what the command carries to the card: at least 512 bytes for Set Features 13h, of which 512 are read; of others
  *          nothing is read.
  * answer:  room for what the command carries to the host. The data is written to its start; the bytes after it keep what
  *          they held, and so does the whole buffer where the command has no data or is refused.
  * reply:   CARD_REPLY_BYTES bytes that are written by every call, refused or not, as CARD_REPLY_DWORD_0 and so on say; of a refusal
  *          they are zeros. A shorter region gets as many of them as it has room for, and the call is carried out all the same: so with
- *          fewer than CARD_REPLY_BYTES the length of what a clearing read has shown is lost, and so is a notice: its request waits no
- *          more, and nothing says which it was. Bytes after the sixteenth keep what they held.
+ *          fewer than 8 bytes the length of what a clearing read has shown is lost, and with fewer than 12 a notice: its request waits
+ *          no more, and nothing says which it was. Lend CARD_REPLY_BYTES. Bytes after the sixteenth keep what they held.
  *
  * A successful read of page 0Ah without Retain Asynchronous Event clears that set's events, and its entry on page 0Bh. One of page 0Bh
  * lifts the mask and drops the flag of notices.

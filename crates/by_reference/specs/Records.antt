@@ -1,4 +1,5 @@
--- 01: "The media layer charges one lent record in place; a thin layer over a by-value core."
+-- 01: "The media layer charges one lent record in place; a thin layer over a by-value core." A record that is lent by itself has no desk
+-- beside it: that its set was listed is told by no notice and remembered by no flag.
 use mathlib.Core.Path.{_≡_}
 use mathlib.Core.Bool.{true}
 use Prim.Native.Nat.{ℕ}

@@ -30,7 +30,7 @@ use Rattle.steps.proofs.WordsStay.{words-stay}
 use Rattle.steps.proofs.HeldHistories.{never-lost, demanded}
 use Rattle.steps.proofs.NewSets.{well, new-length, legal-set-up, granted-table}
 use Rattle.card_c.specs.Entries.{replySize}
-use Rattle.card_c.specs.HeldByC.{heldByC, SetUpLegalAtC, NoticeNeverLost, DemandAtC}
+use Rattle.card_c.specs.HeldByC.{heldByC, SetUpLegalAtC, ListingNeverLost, DemandAtC}
 use Rattle.card_c.proofs.Replies.{notice-left-out, notice-heard}
 
 -- what a step leaves is as long as what it found
@@ -62,8 +62,8 @@ c-steps =
 pub demand-at-c : DemandAtC
 demand-at-c = demanded heldByC c-steps
 
-pub notice-never-lost : NoticeNeverLost
-notice-never-lost = never-lost heldByC c-steps
+pub listing-never-lost : ListingNeverLost
+listing-never-lost = never-lost heldByC c-steps
 
 -- ---- set-up's words are words
 

@@ -22,23 +22,26 @@ pub record SetUpAtC (bodies region after : List ℕ) (number : ℕ) : Type 0 whe
 -- ---- what an item's call says beside its status, in a region of its own
 
 -- docs/DECISIONS.md, "A reply to C": dword 0 at bytes 3:0, the length of data at 7:4; 02's notice, "given beside the item's own answer with
--- the request's identifier": 1 at byte 8 where there is one, the identifier at 11:10 and its dword 0 at 15:12, else zeros
+-- the request's identifier": 1 at bytes 9:8 where there is one, the identifier at 11:10 and its dword 0 at 15:12, else zeros
 abbrev pub replySize : ℕ
 replySize = 16
 
--- where the notice begins, where its identifier stands, and how many bytes it takes
+-- where the notice begins, where its identifier and its dword 0 stand, and how many bytes it takes
 abbrev pub noticeAt : ℕ
 noticeAt = 8
 
 abbrev pub noticeIdAt : ℕ
 noticeIdAt = 10
 
+abbrev pub noticeDwordAt : ℕ
+noticeDwordAt = 12
+
 abbrev pub noticeSize : ℕ
 noticeSize = 8
 
 unfoldable pub replyPage : ℕ → ℕ → Notice → List ℕ
 replyPage dword len notice =
-    place replySize (field 0 4 dword ∷ field 4 4 len ∷ field noticeAt 2 (toldNo notice) ∷ field noticeIdAt 2 (toNo notice) ∷ field 12 4 (noticeNo notice) ∷ [])
+    place replySize (field 0 4 dword ∷ field 4 4 len ∷ field noticeAt 2 (toldNo notice) ∷ field noticeIdAt 2 (toNo notice) ∷ field noticeDwordAt 4 (noticeNo notice) ∷ [])
 
 -- as many of them as the region has room for
 abbrev pub replyPart : ℕ → ℕ → Notice → ℕ → List ℕ

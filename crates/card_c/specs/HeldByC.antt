@@ -71,8 +71,8 @@ SetUpLegalAtC =
 
 -- The listing of one set is never lost to another: a set that is listed stays so, whatever C functions are called that do not name
 -- it, and a read of page 0Bh then lists it (`AggregateBack` of the next).
-abbrev pub NoticeNeverLost : Type 0
-NoticeNeverLost = NeverLost heldByC
+abbrev pub ListingNeverLost : Type 0
+ListingNeverLost = NeverLost heldByC
 
 -- All of it: own record, own answers, the aggregate log exact and rising, swapping with not one byte of the table changed, "What Set
 -- Features stores, Get Features hands back.", and what 02 promises of notices, read from the reply's bytes.

@@ -14,14 +14,14 @@ use Rattle.steps.proofs.HeldWords.{words-demand, part-demand}
 use Rattle.steps.proofs.IdleRefuted.{not-refusing-all, not-alike, not-still, not-first-only, marks-counted, ones-counted, lowest-first}
 use Rattle.steps.proofs.NamedItems.{named-items}
 use Rattle.steps.proofs.NoticeCases.{cases-hold, notices-move, swap-asks}
-use Rattle.steps.proofs.Notices.{card-kept, sent-only, held-else, in-turn, no-listing-unheard, served-at-once, woken, one-at-most, notices-stored}
+use Rattle.steps.proofs.Notices.{card-kept, sent-only, held-else, in-turn, no-listing-unheard, served-at-once, woken, one-at-most, only-set-turns, notices-stored}
 use Rattle.steps.proofs.OnWords.{refused, refused-words, words-run, words-trace, words-notices, words-swap}
 use Rattle.steps.proofs.Order.{order}
 use Rattle.steps.proofs.OwnHistory.{own-record, by-rules, own-answers, joined, listed, picked-ids, aggregate, in-order, stays-listed, swap, swap-within}
 use Rattle.steps.proofs.PastWords.{not-read, not-written, set-up-not-read, set-up-not-written}
 use Rattle.steps.proofs.StoredFeatures.{config-stored, window-stored}
 use Rattle.steps.proofs.WordsStay.{words-stay}
-use Rattle.card_c.proofs.HeldByC.{set-up-legal-at-c, demand-at-c, notice-never-lost}
+use Rattle.card_c.proofs.HeldByC.{set-up-legal-at-c, demand-at-c, listing-never-lost}
 use Rattle.card_c.proofs.Refusals.{refused-item, refused-set-up, one-item}
 use Rattle.card_c.proofs.Refusals as at-c
 use Rattle.by_reference.proofs.OfList.{their-own, too-many}
@@ -61,6 +61,7 @@ claim =
       data-back = data-back;
       config-stored = config-stored;
       window-stored = window-stored;
+      only-set-turns = only-set-turns;
       notices-stored = notices-stored;
       one-word = one-word;
       count-is-ones = count-is-ones;
@@ -104,7 +105,7 @@ claim =
       refused-set-up = refused-set-up;
       set-up-legal-at-c = set-up-legal-at-c;
       demand-at-c = demand-at-c;
-      notice-never-lost = notice-never-lost;
+      listing-never-lost = listing-never-lost;
       edges = edges;
       order = order;
       one-set-up = one-set-up;

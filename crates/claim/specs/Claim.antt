@@ -61,6 +61,7 @@ pub record Claim : Type 0 where
   pub data-back : features.DataBack
   pub config-stored : demands.ConfigStored
   pub window-stored : demands.WindowStored
+  pub only-set-turns : notices.OnlySetTurns
   pub notices-stored : notices.NoticesStored
   -- page 0Bh: "the count is its ones and the next entry its lowest one"
   pub one-word : listing.OneWord
@@ -121,7 +122,7 @@ pub record Claim : Type 0 where
   -- "hands back" of demand 2, demand 3, and 02's notices, of calls on one region, one after another; no listing is lost to another set
   pub set-up-legal-at-c : held-by-c.SetUpLegalAtC
   pub demand-at-c : held-by-c.DemandAtC
-  pub notice-never-lost : held-by-c.NoticeNeverLost
+  pub listing-never-lost : held-by-c.ListingNeverLost
   -- ==== "Edges to show", and rows "checked in this order"
   pub edges : twelve.Edges
   pub order : rows.Order

@@ -1,5 +1,6 @@
 -- 01's commands, and 02's, as one table: what each is, what data it takes and answers, whom it names, and which rows of the status table look
--- at it. What a command does to the set that it names, and its page and dword 0, stand by kind in crates/steps/specs/Commanded.antt.
+-- at it. What a command does to the set that it names or to the desk, and its page and dword 0, stand by kind in
+-- crates/steps/specs/Commanded.antt.
 use mathlib.Core.Bool.{Bool, true, false, not, _||_}
 use mathlib.Core.List.{List, [], _∷_}
 use Prim.Native.Nat.{ℕ, _*_}
@@ -18,7 +19,7 @@ use Rattle.commands.specs.declared.Whom.the-variants.{NoSet, FeatureSet,
 use Rattle.commands.specs.declared.Shape.{Shape}
 use Rattle.commands.specs.Commands.{dwordSize, opcode, chosen, featureSet, dwords, logSet}
 
--- "Opcodes: 02h Get Log Page, 06h Identify, 09h Set Features, 0Ah Get Features."
+-- "Opcodes: 02h Get Log Page, 06h Identify, 09h Set Features, 0Ah Get Features.", amended by 02, below
 abbrev pub logOpcode : ℕ
 logOpcode = 0x02
 
@@ -35,6 +36,7 @@ getOpcode = 0x0A
 abbrev pub requestOpcode : ℕ
 requestOpcode = 0x0C
 
+-- Asynchronous Event Configuration
 abbrev pub noticesFid : ℕ
 noticesFid = 0x0B
 
@@ -108,7 +110,7 @@ shapeOf ReadAggregate = readLog aggregatePageNo aggregateSize NoSet
 shapeOf EventRequest = requested
 shapeOf Identify = identified setListCns identifySize
 
--- all that are listed
+-- all that are listed; the last of an opcode stands for what is not (`pick`), so that a feature command names its set all the same
 abbrev pub kinds : List Kind
 kinds =
     SetNotices ∷ SetConfig ∷ SetWindow ∷ GetNotices ∷ GetConfig ∷ GetWindow ∷ ReadLatency ∷ ReadAggregate ∷ EventRequest ∷ Identify ∷ []

@@ -28,7 +28,7 @@ use Rattle.commands.specs.Shapes.{shapeOf, kinds, logOpcode, hasOpcode, 
 abbrev pub lengthRow : Command → Line
 lengthRow c = line (not (c .whole)) numbers.badCommandLength
 
--- "opcode not listed"
+-- "opcode not listed"; 02: "Opcode 0Ch and FID 0Bh leave 01's refusals"
 abbrev pub opcodeListed : Command → Bool
 opcodeListed c = anyOf (hasOpcode (opcode c)) kinds
 
@@ -42,7 +42,7 @@ isListed c = anyOf (λ k. hasOpcode (opcode c) k && hasChoice (chosen c) k) kind
 abbrev pub readsLog : Command → Bool
 readsLog c = eqb (opcode c) logOpcode
 
--- "FID or CNS not listed"
+-- "FID or CNS not listed", and 02, as above
 abbrev pub choiceRow : Command → Line
 choiceRow c = line (not (readsLog c) && not (isListed c)) numbers.invalidField
 

@@ -10,7 +10,7 @@ use lib.ListN.{length, getD, length-append}
 use Rattle.octets.specs.Choice.{if_then_else_, bit}
 use Rattle.desk.specs.Desk.{Desk, deskOf, queued, turned, lifted, Told, sendBy, settle, requestsMaximum, identifierMaximum, allIdentifiers}
 use Rattle.desk.specs.Words.{deskWords, deskIn, WordsOfDesk}
-use Rattle.desk.specs.AtWords.{queuedWords, turnedWords, liftedWords, raises, served, held, settledWords}
+use Rattle.desk.specs.AtWords.{queuedWords, turnedWords, liftedWords, sends, served, remembered, settledWords}
 use Rattle.desk.specs.declared.Settled.{Settled}
 use Rattle.desk.proofs.Bits.{bit-one, bit-none, identifier-whole}
 use Rattle.desk.proofs.LegalDesks.{fine, one-of}
@@ -31,7 +31,7 @@ wordsOfTold t = record { words = deskWords (t .desk); notice = t .notice }
 
 module _ (on masked flag new : Bool) where
   abbrev choice : Bool → List ℕ → Settled
-  choice b ws = if b && ltb 0 (length ws) then served (deskWords (deskOf on masked flag ws)) else held new (deskWords (deskOf on masked flag ws))
+  choice b ws = if b && ltb 0 (length ws) then served (deskWords (deskOf on masked flag ws)) else remembered new (deskWords (deskOf on masked flag ws))
 
   settle-by : (b : Bool) (ws : List ℕ) → leb (length ws) requestsMaximum ≡ true → allIdentifiers ws ≡ true
       → choice b ws ≡ wordsOfTold (sendBy b (deskOf on masked (flag || new) ws) ws)
@@ -43,14 +43,14 @@ module _ (on masked flag new : Bool) where
   settle-by true (x ∷ y ∷ z ∷ w ∷ []) few ids = rw (identifier-whole x (one-of x (y ∷ z ∷ w ∷ []) ids .0))
   settle-by true (x ∷ y ∷ z ∷ w ∷ v ∷ vs) few ids = absurd (let l = leb-true (length (x ∷ y ∷ z ∷ w ∷ v ∷ vs)) requestsMaximum few in omega arith)
 
-  raises-by : (ws : List ℕ) → raises new (deskWords (deskOf on masked flag ws)) ≡ (flag || new) && on && not masked && ltb 0 (length ws)
-  raises-by ws = rw (bit-one flag, bit-one on, bit-none masked)
+  sends-by : (ws : List ℕ) → sends new (deskWords (deskOf on masked flag ws)) ≡ (flag || new) && on && not masked && ltb 0 (length ws)
+  sends-by ws = rw (bit-one flag, bit-one on, bit-none masked)
 
 settle-words :
     (new : Bool) (d : Desk) → leb (length (d .waiting)) requestsMaximum ≡ true → allIdentifiers (d .waiting) ≡ true
     → settledWords new (deskWords d) ≡ wordsOfTold (settle new d)
 settle-words new d few ids =
-    ap (λ (b : Bool). if b then served (deskWords d) else held new (deskWords d)) (raises-by (d .on) (d .masked) (d .flag) new (d .waiting))
+    ap (λ (b : Bool). if b then served (deskWords d) else remembered new (deskWords d)) (sends-by (d .on) (d .masked) (d .flag) new (d .waiting))
     ∙ settle-by (d .on) (d .masked) (d .flag) new ((d .flag || new) && d .on && not (d .masked)) (d .waiting) few ids
 
 -- ---- on the words of a legal desk

@@ -10,7 +10,7 @@ use lib.ListN.{length, getD}
 use Rattle.octets.specs.Choice.{bit}
 use Rattle.octets.proofs.JoinedTests.{both, together, and-left, and-right}
 use Rattle.desk.specs.Desk.{Desk, deskOf, waits, ready, requestsMaximum, identifierMaximum, allIdentifiers, legalDesk}
-use Rattle.desk.specs.Words.{deskSize, deskWords, deskIn, placeLegal, servedLate, deskLegal, WordsOfDesk, LegalWords, DeskOfWords, LegalDesks}
+use Rattle.desk.specs.Words.{deskSize, deskWords, deskIn, placeLegal, servable, deskLegal, WordsOfDesk, LegalWords, DeskOfWords, LegalDesks}
 use Rattle.desk.proofs.Bits.{bit-one, bit-none, bit-small, bit-back, none-not, identifier-whole, used-place, free-place}
 
 pub length-desk : (d : Desk) → length (deskWords d) ≡ deskSize

@@ -2,11 +2,12 @@
 use mathlib.Core.Bool.{Bool, _&&_, _||_}
 use mathlib.Core.List.{List, [], _∷_}
 use Prim.Native.Nat.{ℕ, _+_, _-_, _%_, _^_}
-use lib.Dec.{ltb, eqb}
+use lib.Dec.{leb, ltb, eqb}
 use lib.ListN.{getD, set}
 use Rattle.octets.specs.Choice.{if_then_else_, bit}
 use Rattle.replies.specs.declared.Notice.the-variants.{Unsent, To}
-use Rattle.desk.specs.Words.{firstWaiting}
+use Rattle.desk.specs.Desk.{requestsMaximum}
+use Rattle.desk.specs.Words.{firstWaiting, placeLegal}
 use Rattle.desk.specs.declared.Settled.{Settled}
 
 abbrev pub queuedWords : ℕ → List ℕ → List ℕ
@@ -18,9 +19,18 @@ turnedWords on a = set a 0 (bit on)
 abbrev pub liftedWords : List ℕ → List ℕ
 liftedWords a = set (set a 1 0) 2 0
 
+-- no more requests wait than may, and the places for their identifiers are as they must be
+abbrev pub placesLegal : List ℕ → Bool
+placesLegal a =
+    leb (getD a 3 0) requestsMaximum
+    && placeLegal (ltb 0 (getD a 3 0)) (getD a 4 0)
+    && placeLegal (ltb 1 (getD a 3 0)) (getD a 5 0)
+    && placeLegal (ltb 2 (getD a 3 0)) (getD a 6 0)
+    && placeLegal (ltb 3 (getD a 3 0)) (getD a 7 0)
+
 -- something is to be told, and can be
-abbrev pub raises : Bool → List ℕ → Bool
-raises new a = (eqb (getD a 2 0) 1 || new) && eqb (getD a 0 0) 1 && eqb (getD a 1 0) 0 && ltb 0 (getD a 3 0)
+abbrev pub sends : Bool → List ℕ → Bool
+sends new a = (eqb (getD a 2 0) 1 || new) && eqb (getD a 0 0) 1 && eqb (getD a 1 0) 0 && ltb 0 (getD a 3 0)
 
 -- the oldest request is completed
 abbrev pub served : List ℕ → Settled
@@ -31,8 +41,8 @@ served a =
     }
 
 -- the flag remembers
-abbrev pub held : Bool → List ℕ → Settled
-held new a = record { words = set a 2 (bit (eqb (getD a 2 0) 1 || new)); notice = Unsent }
+abbrev pub remembered : Bool → List ℕ → Settled
+remembered new a = record { words = set a 2 (bit (eqb (getD a 2 0) 1 || new)); notice = Unsent }
 
 abbrev pub settledWords : Bool → List ℕ → Settled
-settledWords new a = if raises new a then served a else held new a
+settledWords new a = if sends new a then served a else remembered new a

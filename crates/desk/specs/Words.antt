@@ -34,8 +34,8 @@ abbrev pub placeLegal : Bool → ℕ → Bool
 placeLegal used x = leb x identifierMaximum && (used || eqb x 0)
 
 -- "no flag that could be served at once"
-abbrev pub servedLate : List ℕ → Bool
-servedLate a = eqb (getD a 2 0) 1 && eqb (getD a 0 0) 1 && eqb (getD a 1 0) 0 && ltb 0 (getD a 3 0)
+abbrev pub servable : List ℕ → Bool
+servable a = eqb (getD a 2 0) 1 && eqb (getD a 0 0) 1 && eqb (getD a 1 0) 0 && ltb 0 (getD a 3 0)
 
 -- "Legal: at most four waiting, and no flag that could be served at once.": words 0, 1 and 2 are 0 or 1, word 3 is at most four, and the
 -- identifiers stand "oldest" first, without gaps
@@ -49,7 +49,7 @@ deskLegal a =
     && placeLegal (ltb 1 (getD a 3 0)) (getD a 5 0)
     && placeLegal (ltb 2 (getD a 3 0)) (getD a 6 0)
     && placeLegal (ltb 3 (getD a 3 0)) (getD a 7 0)
-    && not (servedLate a)
+    && not (servable a)
 
 -- Such words are those of a legal desk, and those of a legal desk are such words. Proved as `legal-words` and `legal-desks` in
 -- proofs/LegalDesks.antt.

@@ -6,8 +6,8 @@ ghost use Prim.Native.Nat.{_<_};
 ghost use lib.Dec.{eqb};
 ghost use lib.ListN.{getD};
 ghost use Rattle.desk.specs.Desk.{requestsMaximum};
-ghost use Rattle.desk.specs.Words.{placeLegal, servedLate, deskLegal};
-ghost use Rattle.desk.specs.AtWords.{raises, served, held, settledWords, queuedWords, turnedWords, liftedWords};
+ghost use Rattle.desk.specs.Words.{servable, deskLegal};
+ghost use Rattle.desk.specs.AtWords.{placesLegal, sends, served, remembered, settledWords, queuedWords, turnedWords, liftedWords};
 use octets::casts::bit_of;
 use octets::casts::from_short;
 use octets::casts::to_size;
@@ -27,37 +27,50 @@ pub struct Settled {
     pub notice: Notice,
 }
 
-fn place_legal(used: bool, x: u64) -> bool
-    ensures { λ r. ⌜ r ≡ placeLegal used x ⌝ }
+// The places for identifiers, by how many requests wait: so many have one, and the others are zero.
+fn places_legal(a: [u64; DESK]) -> bool
+    ensures { λ r. ⌜ r ≡ placesLegal a ⌝ }
 {
-    (x <= IDENTIFIER) & (used | (x == 0))
+    let n = a[3];
+    if n == 0 {
+        return (a[4] == 0) & (a[5] == 0) & (a[6] == 0) & (a[7] == 0);
+    }
+    if n == 1 {
+        return (a[4] <= IDENTIFIER) & (a[5] == 0) & (a[6] == 0) & (a[7] == 0);
+    }
+    if n == 2 {
+        return (a[4] <= IDENTIFIER) & (a[5] <= IDENTIFIER) & (a[6] == 0) & (a[7] == 0);
+    }
+    if n == 3 {
+        return (a[4] <= IDENTIFIER) & (a[5] <= IDENTIFIER) & (a[6] <= IDENTIFIER) & (a[7] == 0);
+    }
+    if n == REQUESTS {
+        return (a[4] <= IDENTIFIER)
+            & (a[5] <= IDENTIFIER)
+            & (a[6] <= IDENTIFIER)
+            & (a[7] <= IDENTIFIER);
+    }
+    false
 }
 
 // A flag that could be served at once.
-fn served_late(a: [u64; DESK]) -> bool
-    ensures { λ r. ⌜ r ≡ servedLate a ⌝ }
+fn servable(a: [u64; DESK]) -> bool
+    ensures { λ r. ⌜ r ≡ servable a ⌝ }
 {
     (a[2] == 1) & (a[0] == 1) & (a[1] == 0) & (0 < a[3])
 }
 
+// Asked of every table, so by branches that a card takes again and again.
 pub fn legal(a: [u64; DESK]) -> bool
     ensures { λ r. ⌜ r ≡ deskLegal a ⌝ }
 {
-    let n = a[3];
-    let first = place_legal(0 < n, a[4]);
-    let second = place_legal(1 < n, a[5]);
-    let third = place_legal(2 < n, a[6]);
-    let fourth = place_legal(3 < n, a[7]);
-    let late = served_late(a);
-    (a[0] <= 1)
-        & (a[1] <= 1)
-        & (a[2] <= 1)
-        & (n <= REQUESTS)
-        & first
-        & second
-        & third
-        & fourth
-        & !late
+    if (a[0] <= 1) & (a[1] <= 1) & (a[2] <= 1) {
+        if servable(a) {
+            return false;
+        }
+        return places_legal(a);
+    }
+    false
 }
 
 // ---- what commands do
@@ -108,8 +121,8 @@ pub fn is_on(a: [u64; DESK]) -> bool
 // ---- notices
 
 // Whether a notice goes out: there is something to tell, notices are on, none is masked, and a request waits.
-fn raises(a: [u64; DESK], new: bool) -> bool
-    ensures { λ r. ⌜ r ≡ raises new a ⌝ }
+fn sends(a: [u64; DESK], new: bool) -> bool
+    ensures { λ r. ⌜ r ≡ sends new a ⌝ }
 {
     ((a[2] == 1) | new) & (a[0] == 1) & (a[1] == 0) & (0 < a[3])
 }
@@ -129,8 +142,8 @@ fn served(a: [u64; DESK]) -> Settled
 }
 
 // The flag remembers what is to be told.
-fn held(a: [u64; DESK], new: bool) -> Settled
-    ensures { λ r. ⌜ r ≡ held new a ⌝ }
+fn remembered(a: [u64; DESK], new: bool) -> Settled
+    ensures { λ r. ⌜ r ≡ remembered new a ⌝ }
 {
     let mut b = a;
     b[2] = bit_of((a[2] == 1) | new);
@@ -145,10 +158,10 @@ fn held(a: [u64; DESK], new: bool) -> Settled
 pub fn settle(a: [u64; DESK], new: bool) -> Settled
     ensures { λ r. ⌜ r ≡ settledWords new a ⌝ }
 {
-    if raises(a, new) {
+    if sends(a, new) {
         served(a)
     } else {
-        held(a, new)
+        remembered(a, new)
     }
 }
 

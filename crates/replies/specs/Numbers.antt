@@ -1,4 +1,4 @@
--- 01, "Status numbers (type x 256 + code)".
+-- 01, "Status numbers (type x 256 + code)", and those of 02.
 use Prim.Native.Nat.{ℕ}
 
 -- carried out

@@ -14,7 +14,7 @@ use Rattle.octets.specs.Choice.{if_then_else_}
 use Rattle.octets.proofs.JoinedTests.{both, left-false}
 use Rattle.record.specs.declared.Record.{Record}
 use Rattle.replies.specs.declared.Reply.{Reply}
-use Rattle.replies.specs.Numbers.{invalidField, unknownSet, tooEarly, tooShort}
+use Rattle.replies.specs.Numbers.{success, invalidField, unknownSet, tooEarly, tooShort, badTable}
 use Rattle.replies.specs.declared.Notice.the-variants.{Unsent}
 use Rattle.record.specs.declared.Attributes.{Attributes}
 use Rattle.record.specs.declared.State.{State}
@@ -31,16 +31,17 @@ use Rattle.commands.specs.Shapes.{shapeOf, kindOf, isNamed, namedBy}
 use Rattle.commands.proofs.Passed.{unknown-not-zero}
 use Rattle.commands.specs.StatusTable.{earlyLines, unknownNumber, windowWrong, shortLine, selectsEarly, requestLine, lateLines}
 use Rattle.rules.specs.declared.Media.{Media}
+use Rattle.rules.specs.declared.Media.the-variants.{Reads, Writes, Excursion}
 use Rattle.octets.specs.Lists.{first}
 use Rattle.steps.specs.Items.{Card, Item, reads, writes, excursion, tick, command, itemOf, One, Meaning, Nobody, Everybody, The}
-use Rattle.steps.specs.Commanded.{doing, named, viewLines, viewed, meaningBy, commandMeaning}
+use Rattle.steps.specs.Commanded.{named, viewLines, viewed, meaningBy, commandMeaning}
 use Rattle.steps.specs.Meanings.{event, meaning}
 use Rattle.rules.specs.Rules.{mediaRule}
 use Rattle.steps.specs.Card.{has, unknownAt, refusalOne, refusalBy, refusalOf, doneOne, doneBy, answer}
-use Rattle.steps.specs.Rows.{setIn, isThere, ofSet, commandRows, eventRows, tickRows, carriedOut, Told}
+use Rattle.steps.specs.Rows.{setIn, isThere, ofSet, commandRows, eventRows, tickRows, carriedOut, ByRows}
 use Rattle.steps.specs.Words.{Result, cardOf, stepWords}
 use Rattle.steps.specs.SetUp.{setUpLines, setUpStatus, setUp}
-use Rattle.steps.specs.Demands.{refusalWords, carriedStatus, CarriedOut, NumberTells, Exactly, ExactlyEvents, ExactlyTicks, RefusedBuffer, RefusedHanded, SetUpExactly, SetUpRefused, SetUpLegal}
+use Rattle.steps.specs.Demands.{refusalWords, carriedCommand, carriedStatus, CarriedOut, NumberTells, Exactly, ExactlyEvents, ExactlyTicks, RefusedBuffer, RefusedHanded, SetUpExactly, SetUpRefused, SetUpLegal}
 use Rattle.steps.proofs.Slots.{refused-answer}
 use Rattle.steps.proofs.OnWords.{refused-words}
 use Rattle.steps.proofs.NewSets.{done, notDone, legal-set-up}
@@ -69,11 +70,11 @@ rows-tell (l ∷ ls) h =
     let p = both (not (carriedOut (l .number))) (apart ls) h in
     by-row (l .holds) (l .number) (firstOf ls) (not-carried (carriedOut (l .number)) (p .0)) (rows-tell ls (p .1))
 
-told : (rows : List Line) (status : ℕ) → apart rows ≡ true → status ≡ firstOf rows → Told rows status
+told : (rows : List Line) (status : ℕ) → apart rows ≡ true → status ≡ firstOf rows → ByRows rows success status
 told rows status a e =
     record {
       refusal = λ n. e;
-      success = λ z. rw (e, z);
+      success = λ z. e ∙ z;
       tells = ap carriedOut e ∙ rows-tell rows a;
     }
 
@@ -86,7 +87,7 @@ Succeeds s (The id o) =
     ((unknownAt o ≡ 0 → ⊥) × ((r : Record) → o .done r .status ≡ s))
     × ((apart (o .early ++ line true (o .unknown) ∷ []) ≡ true) × ((a : Attributes) (t : State) → apart (o .early ++ o .late a t) ≡ true))
 
-by-kind : (k : Kind) (c : Command) (given : List ℕ) (room : ℕ) → Succeeds (doing k .status) (meaningBy k c given room)
+by-kind : (k : Kind) (c : Command) (given : List ℕ) (room : ℕ) → Succeeds (carriedCommand k) (meaningBy k c given room)
 by-kind SetNotices c given room = λ card. (refl, refl)
 by-kind SetConfig c given room = ((unknown-not-zero c, λ r. refl), (refl, λ a t. refl))
 by-kind SetWindow c given room = ((unknown-not-zero c, λ r. refl), (refl, λ a t. refl))
@@ -142,7 +143,7 @@ no-refusal : (c : Card) (i : Item) → carriedOut (refusalOf c i) ≡ eqb (refus
 unfolding refusalOf
 no-refusal c i = refusal-tells (meaning i) c (carriedStatus i) (succeeds i)
 
-kind-carried : (k : Kind) → carriedOut (doing k .status) ≡ true
+kind-carried : (k : Kind) → carriedOut (carriedCommand k) ≡ true
 kind-carried SetNotices = refl
 kind-carried SetConfig = refl
 kind-carried SetWindow = refl
@@ -183,12 +184,17 @@ number-tells-words ws i =
 -- ---- by 01's rows
 
 -- an item, by the rows that give its refusal
-told-item : (rows : List Line) (ws : List ℕ) (i : Item) → refusalWords ws i ≡ firstOf rows → Told rows (stepWords ws i .answer .status)
+-- where nothing refuses it, its table is legal
+carried-words : (ws : List ℕ) (i : Item) (b : Bool) → legalTable ws ≡ b → refusalWords ws i ≡ 0 → stepWords ws i .answer .status ≡ carriedStatus i
+carried-words ws i true e z = rw (step-legal ws i e) (carried-out (cardOf ws) i (rw e at z))
+carried-words ws i false e z = let y : badTable ≡ 0 = rw e at z in omega arith
+
+told-item : (rows : List Line) (ws : List ℕ) (i : Item) → refusalWords ws i ≡ firstOf rows → ByRows rows (carriedStatus i) (stepWords ws i .answer .status)
 told-item rows ws i e =
     let t : carriedOut (stepWords ws i .answer .status) ≡ eqb (firstOf rows) 0 = number-tells-words ws i ∙ ap (λ (x : ℕ). eqb x 0) e in
     record {
       refusal = λ n. ap (λ (r : Result). r .answer .status) (refused-words ws i (λ z. n (sym e ∙ z))) ∙ e;
-      success = λ z. t ∙ eq-eqb (firstOf rows) 0 z;
+      success = λ z. carried-words ws i (legalTable ws) refl (e ∙ z);
       tells = t;
     }
 
@@ -279,8 +285,14 @@ unfolding refusalOf
 event-rows ws id m true e = rw (e, meaning-media id m) (event-below ws id m (setIn ws id))
 event-rows ws id m false e = rw e
 
+-- what the media layer reports is carried out with success
+media-status : (id : ℕ) (m : Media) → carriedStatus (itemOf id m) ≡ success
+media-status id (Reads k) = refl
+media-status id (Writes k) = refl
+media-status id Excursion = refl
+
 pub exactly-events : ExactlyEvents
-exactly-events ws id m = told-item (eventRows ws id) ws (itemOf id m) (event-rows ws id m (legalTable ws) refl)
+exactly-events ws id m = rw (← media-status id m) (told-item (eventRows ws id) ws (itemOf id m) (event-rows ws id m (legalTable ws) refl))
 
 tick-rows : (ws : List ℕ) (t room : ℕ) (b : Bool) → legalTable ws ≡ b → refusalWords ws (tick t room) ≡ firstOf (tickRows ws t)
 unfolding refusalOf meaning

@@ -12,6 +12,7 @@ use Rattle.desk.specs.Desk.{Desk, deskOf}
 use Rattle.rules.specs.Door.{going}
 use Rattle.rules.specs.Rules.{leaving}
 use Rattle.pages.specs.Aggregate.{aggregatePage}
+use Rattle.pages.specs.Latency.{latencyPage}
 use Rattle.commands.specs.Commands.{commandIn}
 use Rattle.commands.specs.Shapes.{kindBy}
 use Rattle.steps.specs.Items.{Card, Item, reads, excursion}
@@ -22,8 +23,8 @@ use Rattle.steps.specs.Notices.{SwapAsks, NoticesMove}
 use Rattle.steps.specs.NoticeCases.{unlisted, cases, CasesHold}
 
 pub cases-hold : CasesHold
-unfolding cases commandIn commandMeaning meaning kindBy refusalOf effectOn concerns touched deskOn atDesk answer going leaving aggregatePage place
-cases-hold = (refl, (refl, (refl, (refl, (refl, (refl, (refl, (refl, (refl, (refl, (refl, (refl, (refl, (refl, (refl, (refl, (refl, (refl, (refl, (refl, tt))))))))))))))))))))
+unfolding cases commandIn commandMeaning meaning kindBy refusalOf effectOn concerns touched deskOn atDesk answer going leaving aggregatePage latencyPage place
+cases-hold = (refl, (refl, (refl, (refl, (refl, (refl, (refl, (refl, (refl, (refl, (refl, (refl, (refl, (refl, (refl, (refl, (refl, (refl, (refl, (refl, (refl, (refl, (refl, (refl, (refl, (refl, (refl, (refl, tt))))))))))))))))))))))))))))
 
 -- with one request waiting, the first of two excursions has the notice beside it
 pub notices-move : NoticesMove

@@ -23,12 +23,12 @@ use Rattle.commands.specs.declared.Kind.the-variants.{SetNotices, SetConfig, Se
 use Rattle.commands.specs.Commands.{commandIn, retain, turnsOn}
 use Rattle.commands.specs.Shapes.{kindOf}
 use Rattle.steps.specs.Items.{Card, Item, reads, writes, excursion, tick, command, Nobody}
-use Rattle.steps.specs.Commanded.{noticesNo, doing, viewed, meaningBy, commandMeaning}
+use Rattle.steps.specs.Commanded.{noticesNo, viewed, meaningBy, commandMeaning}
 use Rattle.steps.specs.Meanings.{meaning}
 use Rattle.steps.specs.Card.{refusalOf, setsAfter, deskOn, atDesk, after, answer, step, run, notices}
 use Rattle.steps.specs.Rows.{carriedOut}
-use Rattle.steps.specs.Demands.{carriedStatus}
-use Rattle.steps.specs.Notices.{legalCard, CardKept, requestOf, requestIn, acceptedBy, accepted, InTurn, lists, liftsBy, readsListed, lifts, noneLifts, Sends, SentOnly, Holds, HeldElse, listsSome, Heard, NoListingUnheard, ServedAtOnce, Woken, OneAtMost, turnsNotices, noneTurns, NoticesStored}
+use Rattle.steps.specs.Demands.{carriedCommand, carriedStatus}
+use Rattle.steps.specs.Notices.{legalCard, CardKept, requestOf, requestIn, acceptedBy, accepted, InTurn, lists, liftsBy, readsListed, lifts, noneLifts, Sends, SentOnly, Holds, HeldElse, listsSome, Heard, NoListingUnheard, ServedAtOnce, Woken, OneAtMost, turnsNotices, noneTurns, OnlySetTurns, NoticesStored}
 use Rattle.steps.proofs.ItemShapes.{bool-cases}
 use Rattle.steps.proofs.Slots.{refused-answer, refused-sets}
 use Rattle.steps.proofs.KeptLegal.{sets-kept}
@@ -57,7 +57,7 @@ or-none true b h = absurd (false≢true (sym h))
 or-none false b h = (refl, h)
 
 -- a request that is carried out is answered 07C8h
-kind-own : (k : Kind) (c : Command) → (if eqb (doing k .status) requestWaits then requestOf k c else []) ≡ requestOf k c
+kind-own : (k : Kind) (c : Command) → (if eqb (carriedCommand k) requestWaits then requestOf k c else []) ≡ requestOf k c
 kind-own SetNotices c = refl
 kind-own SetConfig c = refl
 kind-own SetWindow c = refl
@@ -102,7 +102,7 @@ in-turn c (i ∷ is) =
 
 -- ---- one item: it sends, or it holds
 
-kind-zero : (k : Kind) (c : Command) → liftsBy k c ≡ true → doing k .status ≡ 0
+kind-zero : (k : Kind) (c : Command) → liftsBy k c ≡ true → carriedCommand k ≡ 0
 kind-zero SetNotices c h = refl
 kind-zero SetConfig c h = refl
 kind-zero SetWindow c h = refl
@@ -406,6 +406,9 @@ asked-on : (c : Card) (bytes given : List ℕ) (room : ℕ) → kindOf (commandI
     → answer c (command bytes given room) ≡ granted (noticesNo (c .desk .on)) []
 unfolding answer refusalOf
 asked-on c bytes given room k z = let m = command-is bytes given room GetNotices k in rw (m, rw m at z)
+
+pub only-set-turns : OnlySetTurns
+only-set-turns c is h = run-on is c h
 
 pub notices-stored : NoticesStored
 notices-stored c bytes given room is bytes′ given′ room′ k z h k′ z′ =

@@ -75,7 +75,7 @@ AtDesk = Command → Desk → Desk
 abbrev pub leavesDesk : AtDesk
 leavesDesk c d = d
 
--- 02: "A successful read of 0Bh with Retain 0 lifts the mask and drops the flag; 01's "reading changes nothing" is amended to that."
+-- 01: "Reading changes nothing.", amended by 02: "A successful read of 0Bh with Retain 0 lifts the mask and drops the flag"
 abbrev pub liftsMask : AtDesk
 liftsMask c d = if retain c then d else lifted d
 
@@ -87,6 +87,7 @@ queues c d = queued (identifier c) d
 abbrev pub turns : AtDesk
 turns c d = turned (turnsOn c) d
 
+-- bit 12, as Get Features gives it in dword 0
 abbrev pub noticesBit : ℕ
 noticesBit = 0x1000
 

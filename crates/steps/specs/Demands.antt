@@ -21,7 +21,7 @@ use Rattle.record.specs.declared.Record.{Record}
 use Rattle.record.specs.Parts.{idOf}
 use Rattle.record.specs.Event.{bit, anyEnabled}
 use Rattle.record.specs.Windows.{windowNo}
-use Rattle.replies.specs.Numbers.{success, badTable}
+use Rattle.replies.specs.Numbers.{success, requestWaits, badTable}
 use Rattle.replies.specs.declared.Notice.{Notice}
 use Rattle.replies.specs.declared.Notice.the-variants.{Unsent}
 use Rattle.replies.specs.declared.Reply.{Reply}
@@ -36,18 +36,17 @@ use Rattle.steps.specs.Items.{Card, Item, reads, writes, excursion, tick
 use Rattle.commands.specs.declared.Kind.{Kind}
 use Rattle.commands.specs.declared.Kind.the-variants.{SetConfig, SetWindow, GetConfig, GetWindow, ReadAggregate}
 use Rattle.commands.specs.Commands.{dwordSize, commandIn, featureSet, enable, windowValue, offset, dwords}
-use Rattle.commands.specs.Shapes.{setOpcode, configFid, hasOpcode, hasChoice, kindOf, isNamed, namedBy}
+use Rattle.commands.specs.Shapes.{shapeOf, setOpcode, configFid, hasOpcode, hasChoice, kindOf, isNamed, namedBy}
 use Rattle.steps.specs.Meanings.{meaning}
 use Rattle.steps.specs.Card.{effectOn, ruled, refusalOf, has, names, answer, step, run, trace, notices}
-use Rattle.steps.specs.Commanded.{doing}
 use Rattle.steps.specs.Words.{cardOf, unchanged, stepWords, Answered, Handed}
 use Rattle.rules.specs.declared.Media.{Media}
-use Rattle.steps.specs.Rows.{Told, carriedOut, commandRows, eventRows, tickRows}
+use Rattle.steps.specs.Rows.{ByRows, carriedOut, commandRows, eventRows, tickRows}
 use Rattle.steps.specs.SetUp.{setUpLines, setUpStatus, newCard, setUp}
 
 -- ==== demand 1: "with success or with the one refusal that document 01 names for that input"
 
--- "A refused call gives dword 0 as zero and no data, and changes no byte of the table": on the card, no set and no waiting request; and
+-- "A refused call gives dword 0 as zero and no data, and changes no byte of the table": on the card, no set and nothing of the desk; and
 -- no notice goes beside it
 abbrev pub Refused : Type 0
 Refused =
@@ -62,13 +61,17 @@ abbrev pub RefusedWords : Type 0
 RefusedWords =
     (ws : List ℕ) (i : Item) → (refusalWords ws i ≡ 0 → ⊥) → stepWords ws i ≡ unchanged ws (refusalWords ws i)
 
--- an item that is not refused answers with success; a request, 02: "07C8h (waiting, no refusal)"
+-- a command that is not refused answers with success; one that queues, 02: "each answered 07C8h (waiting, no refusal)"
+abbrev pub carriedCommand : Kind → ℕ
+carriedCommand k = if shapeOf k .queues then requestWaits else success
+
+-- and every other item with success
 abbrev pub carriedStatus : Item → ℕ
 carriedStatus (reads id k) = success
 carriedStatus (writes id k) = success
 carriedStatus (excursion id) = success
 carriedStatus (tick t room) = success
-carriedStatus (command bytes given room) = doing (kindOf (commandIn bytes)) .status
+carriedStatus (command bytes given room) = carriedCommand (kindOf (commandIn bytes))
 
 abbrev pub CarriedOut : Type 0
 CarriedOut = (c : Card) (i : Item) → refusalOf c i ≡ 0 → answer c i .status ≡ carriedStatus i
@@ -77,16 +80,18 @@ CarriedOut = (c : Card) (i : Item) → refusalOf c i ≡ 0 → answer c i .statu
 abbrev pub NumberTells : Type 0
 NumberTells = (c : Card) (i : Item) → carriedOut (answer c i .status) ≡ eqb (refusalOf c i) 0
 
--- "the one refusal that document 01 names for that input", exactly then: on any words, by 01's rows for commands, media events, ticks
+-- "the one refusal that document 01 names for that input", exactly then: on any words, by the rows of 01 and 02 for commands, media
+-- events, ticks
 abbrev pub Exactly : Type 0
 Exactly =
-    (ws bytes given : List ℕ) (room : ℕ) → Told (commandRows ws bytes given room) (stepWords ws (command bytes given room) .answer .status)
+    (ws bytes given : List ℕ) (room : ℕ)
+    → ByRows (commandRows ws bytes given room) (carriedCommand (kindOf (commandIn bytes))) (stepWords ws (command bytes given room) .answer .status)
 
 abbrev pub ExactlyEvents : Type 0
-ExactlyEvents = (ws : List ℕ) (id : ℕ) (m : Media) → Told (eventRows ws id) (stepWords ws (itemOf id m) .answer .status)
+ExactlyEvents = (ws : List ℕ) (id : ℕ) (m : Media) → ByRows (eventRows ws id) success (stepWords ws (itemOf id m) .answer .status)
 
 abbrev pub ExactlyTicks : Type 0
-ExactlyTicks = (ws : List ℕ) (t room : ℕ) → Told (tickRows ws t) (stepWords ws (tick t room) .answer .status)
+ExactlyTicks = (ws : List ℕ) (t room : ℕ) → ByRows (tickRows ws t) success (stepWords ws (tick t room) .answer .status)
 
 -- "or of the answer buffer": what an item that is refused leaves of it
 abbrev pub RefusedBuffer : Type 0
@@ -103,7 +108,7 @@ RefusedHanded =
 
 -- the same of set-up, which is no item; and what it leaves where it succeeds
 abbrev pub SetUpExactly : Type 0
-SetUpExactly = (bytes ws : List ℕ) → Told (setUpLines bytes (length ws)) (setUp bytes ws .answer .status)
+SetUpExactly = (bytes ws : List ℕ) → ByRows (setUpLines bytes (length ws)) success (setUp bytes ws .answer .status)
 
 abbrev pub SetUpRefused : Type 0
 SetUpRefused =
@@ -227,7 +232,7 @@ pendingIds c items = map idOf (keep (λ r. pending r (own c r items)) (c .sets))
 abbrev pub Listed : Type 0
 Listed = (c : Card) (items : List Item) → map idOf (keep (λ r. r .notes .listed) (run c items .sets)) ≡ pendingIds c items
 
--- So the notice of one set is never lost to another: a set that is listed stays so, whatever items come that do not name it.
+-- So the listing of one set is never lost to another: a set that is listed stays so, whatever items come that do not name it.
 abbrev pub StaysListed : Type 0
 StaysListed =
     (c : Card) (items : List Item) (k : ℕ) (r : Record) → nth k (c .sets) ≡ some r → r .notes .listed ≡ true

@@ -145,7 +145,7 @@ module _ (H : Holder) where
       (H .without (d .back) ≡ H .shows (d .lent) (granted 0 (padded (aggregatePage ids) (offset (commandIn bytes)) (dwords (commandIn bytes) * dwordSize))) Unsent)
       × Rising 0 ids
 
-  -- The notice of one set is never lost to another: a set that is listed stays so, whatever calls are made that do not name it.
+  -- The listing of one set is never lost to another: a set that is listed stays so, whatever calls are made that do not name it.
   abbrev pub NeverLost : Type 0
   NeverLost =
       (h : H .Held) (cs : List (Called H)) (k : ℕ) (r : Record) → legalTable (H .words h) ≡ true → History H h cs

@@ -55,7 +55,7 @@ pub record All : Type 0 where
   pub rule : Attributes → State → Effect
   pub part : Record → List ℕ
 
--- An item that names no set and changes none: its refusals; what it does to the desk, if it is carried out; and an answer made from the
+-- A view of the card: an item that names no set and changes none, though it may change the desk. It has its refusals; what it does to the desk, if it is carried out; and an answer made from the
 -- card before it.
 pub record View : Type 0 where
   pub early : Card → List Line

@@ -1,4 +1,4 @@
--- 02, "Wake the host": each of its sentences on one item, computed. Sets 7 and 8 (as `seven` of Order.antt) are in D, with the excursion event
+-- 02, "Wake the host": its sentences on requests, notices, the mask and the flag, each on one item, computed. Sets 7 and 8 (as `seven` of Order.antt) are in D, with the excursion event
 -- and time up enabled; a row has a desk, an item, and what is expected of it.
 use mathlib.Core.Path.{_≡_}
 use mathlib.Core.Bool.{Bool, true, false}
@@ -9,11 +9,11 @@ use Rattle.record.specs.declared.Attributes.{Attributes}
 use Rattle.record.specs.declared.Record.{Record}
 use Rattle.record.specs.Parts.{configOf, nothingSpent, recovers, stateOf}
 use Rattle.record.specs.Event.{eventsOf, noEvents}
-use Rattle.replies.specs.Numbers.{success, tooManyRequests, requestWaits, notSaveable, invalidField}
+use Rattle.replies.specs.Numbers.{success, tooShort, tooManyRequests, requestWaits, notSaveable, invalidField}
 use Rattle.replies.specs.Answers.{toldOf}
 use Rattle.desk.specs.Desk.{Desk, deskOf, newDesk}
 use Rattle.table.specs.Card.{Card, cardWith}
-use Rattle.commands.specs.Shapes.{logOpcode, setOpcode, getOpcode, requestOpcode, noticesFid, windowFid}
+use Rattle.commands.specs.Shapes.{logOpcode, setOpcode, getOpcode, requestOpcode, noticesFid, windowFid, latencyPageNo, aggregatePageNo}
 use Rattle.steps.specs.Items.{Item, reads, excursion, tick, command}
 use Rattle.steps.specs.Commanded.{noticesBit}
 use Rattle.steps.specs.Card.{Outcome, step}
@@ -47,7 +47,7 @@ inD a listed =
       notes = record { events = eventsOf false false false listed false; listed = listed };
     }
 
--- set 7 in N with its time spent; reads are warned of from 101 on, which is more than D ever has left
+-- set 7 in N with its time spent; the threshold of reads is 101, above the 100 with which D starts, so that entering D warns
 abbrev pub spent : Record
 spent =
     record {
@@ -72,12 +72,20 @@ entering d = cardWith (spent ∷ []) d
 abbrev pub request : ℕ → Item
 request id = command (commandOf (requestOpcode + id * 2 ^ 16) 0 0 0) [] 0
 
--- Set Features 0Bh, bit 12; and the same with Save
+-- the same with every other bit set
+abbrev pub requestFull : ℕ → Item
+requestFull id = command (commandOf (requestOpcode + 0xFF00 + id * 2 ^ 16) 0xFFFFFFFF 0xFFFFFFFF 0xFFFFFFFF) [] 0
+
+-- Set Features 0Bh, bit 12 (it names no set: there is no set 1000h); and the same with Save
 abbrev pub turnOn : Item
 turnOn = command (commandOf setOpcode noticesFid noticesBit 0) [] 0
 
 abbrev pub turnOff : Item
 turnOff = command (commandOf setOpcode noticesFid 0 0) [] 0
+
+-- every bit but that one
+abbrev pub turnOffFull : Item
+turnOffFull = command (commandOf setOpcode noticesFid 0xFFFFEFFF 0xFFFFFFFF) [] 0
 
 abbrev pub turnOnSaved : Item
 turnOnSaved = command (commandOf setOpcode (noticesFid + 2 ^ 31) noticesBit 0) [] 0
@@ -86,12 +94,19 @@ turnOnSaved = command (commandOf setOpcode (noticesFid + 2 ^ 31) noticesBit 0) [
 abbrev pub askOn : ℕ → Item
 askOn select = command (commandOf getOpcode (noticesFid + select * 2 ^ 8) 0 0) [] 0
 
--- Get Log Page 0Bh: one dword, with Retain 0 and 1
+-- Get Log Page 0Bh: one dword from an offset, with room for so many bytes, with Retain 0 and 1
+abbrev pub readFrom : ℕ → ℕ → Item
+readFrom offset room = command (commandOf logOpcode aggregatePageNo 0 offset) [] room
+
 abbrev pub readLists : Item
-readLists = command (commandOf logOpcode 0x000B 0 0) [] 4
+readLists = readFrom 0 4
 
 abbrev pub peekLists : Item
-peekLists = command (commandOf logOpcode 0x800B 0 0) [] 4
+peekLists = command (commandOf logOpcode (aggregatePageNo + 2 ^ 15) 0 0) [] 4
+
+-- Get Log Page 0Ah of set 7, with Retain 0
+abbrev pub readSeven : Item
+readSeven = command (commandOf logOpcode latencyPageNo (7 * 2 ^ 16) 0) [] 4
 
 -- Set Features 14h of set 7: window D
 abbrev pub enterD : Item
@@ -121,6 +136,9 @@ unfoldable pub cases : List Case
 cases =
     -- "each answered 07C8h (waiting, no refusal)", off or on; "a fifth gets 0105h"
     case (step (unlisted newDesk) (request 5)) requestWaits 0 [] (deskOf false false false (5 ∷ []))
+    ∷ case (step (unlisted newDesk) (requestFull 5)) requestWaits 0 [] (deskOf false false false (5 ∷ []))
+    ∷ case (step (unlisted newDesk) (request 0)) requestWaits 0 [] (deskOf false false false (0 ∷ []))
+    ∷ case (step (unlisted (deskOf false false false (5 ∷ []))) (request 5)) requestWaits 0 [] (deskOf false false false (5 ∷ 5 ∷ []))
     ∷ case (step (unlisted (deskOf true true false (4 ∷ []))) (request 5)) requestWaits 0 [] (deskOf true true false (4 ∷ 5 ∷ []))
     ∷ case (step (unlisted (deskOf false false false (1 ∷ 2 ∷ 3 ∷ 4 ∷ []))) (request 5)) tooManyRequests 0 [] (deskOf false false false (1 ∷ 2 ∷ 3 ∷ 4 ∷ []))
     -- "If a notice can't be sent, one flag remembers it": off, no request, masked
@@ -134,14 +152,21 @@ cases =
     ∷ case (step (unlisted (deskOf true false false (5 ∷ 6 ∷ []))) (tick 1000 0)) success 0 (5 ∷ []) (deskOf true true false (6 ∷ []))
     ∷ case (step (entering (deskOf true false false (5 ∷ []))) enterD) success 0 (5 ∷ []) (deskOf true true false [])
     -- "It is served as soon as notices are on, none is masked and a request waits (one just arriving still gets 07C8h first)"
+    -- also where nothing is listed any more
     ∷ case (step (listed (deskOf false false true (5 ∷ []))) turnOn) success 0 (5 ∷ []) (deskOf true true false [])
+    ∷ case (step (unlisted (deskOf false false true (5 ∷ []))) turnOn) success 0 (5 ∷ []) (deskOf true true false [])
     ∷ case (step (listed (deskOf false true true (5 ∷ []))) turnOn) success 0 [] (deskOf true true true (5 ∷ []))
     ∷ case (step (listed (deskOf true false true [])) (request 5)) requestWaits 0 (5 ∷ []) (deskOf true true false [])
-    -- "A successful read of 0Bh with Retain 0 lifts the mask and drops the flag"
+    -- "A successful read of 0Bh with Retain 0 lifts the mask and drops the flag": from any offset; not one that is refused, nor one
+    -- with Retain 1, nor one of 0Ah
     ∷ case (step (listed (deskOf true true true (5 ∷ []))) readLists) success 0 [] (deskOf true false false (5 ∷ []))
+    ∷ case (step (listed (deskOf true true true (5 ∷ []))) (readFrom 8 4)) success 0 [] (deskOf true false false (5 ∷ []))
+    ∷ case (step (listed (deskOf true true true (5 ∷ []))) (readFrom 0 3)) tooShort 0 [] (deskOf true true true (5 ∷ []))
+    ∷ case (step (listed (deskOf true true true (5 ∷ []))) readSeven) success 0 [] (deskOf true true true (5 ∷ []))
     ∷ case (step (listed (deskOf true true true (5 ∷ []))) peekLists) success 0 [] (deskOf true true true (5 ∷ []))
     -- turned off it keeps flag, mask and requests; "feature 0Bh bit 12 for Get"
     ∷ case (step (listed (deskOf true true true (5 ∷ []))) turnOff) success 0 [] (deskOf false true true (5 ∷ []))
+    ∷ case (step (listed (deskOf true true true (5 ∷ []))) turnOffFull) success 0 [] (deskOf false true true (5 ∷ []))
     ∷ case (step (listed (deskOf true true true (5 ∷ []))) (askOn 0)) success noticesBit [] (deskOf true true true (5 ∷ []))
     ∷ case (step (listed newDesk) (askOn 0)) success 0 [] newDesk
     -- "Set Features with Save", "Select not 0"

@@ -170,6 +170,11 @@ abbrev pub noneTurns : Card → List Item → Bool
 noneTurns c [] = true
 noneTurns c (i ∷ is) = not (turnsNotices i && carriedOut (answer c i .status)) && noneTurns (step c i .card) is
 
+-- "start off": no other item turns them on or off
+abbrev pub OnlySetTurns : Type 0
+OnlySetTurns =
+    (c : Card) (items : List Item) → noneTurns c items ≡ true → run c items .desk .on ≡ c .desk .on
+
 abbrev pub NoticesStored : Type 0
 NoticesStored =
     (c : Card) (bytes given : List ℕ) (room : ℕ) (items : List Item) (bytes′ given′ : List ℕ) (room′ : ℕ)

@@ -83,11 +83,12 @@ isOneOf n (m ∷ ms) = eqb n m || isOneOf n ms
 abbrev pub carriedOut : ℕ → Bool
 carriedOut number = isOneOf number carriedNumbers
 
--- "with success or with the one refusal that document 01 names for that input": the answered status, by the rows of the item's refusals
-pub record Told (rows : List Line) (status : ℕ) : Type 0 where
+-- "with success or with the one refusal that document 01 names for that input", and 02: the answered status, by the rows of the item's
+-- refusals and the number with which it is carried out
+pub record ByRows (rows : List Line) (carried status : ℕ) : Type 0 where
   -- where a row holds, the number of the first that does
   pub refusal : (firstOf rows ≡ 0 → ⊥) → status ≡ firstOf rows
-  -- where none holds, a number of an item that was carried out
-  pub success : firstOf rows ≡ 0 → carriedOut status ≡ true
+  -- where none holds, that number
+  pub success : firstOf rows ≡ 0 → status ≡ carried
   -- so that the status by itself tells which
   pub tells : carriedOut status ≡ eqb (firstOf rows) 0

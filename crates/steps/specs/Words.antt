@@ -40,8 +40,8 @@ entryNo unknown Bad = badTable
 entryNo unknown Unknown = unknown
 entryNo unknown (Here slot) = success
 
--- What every item promises: the words that it leaves, its reply (status, dword 0, length of data, and the notice beside them), and every
--- byte of the answer buffer. A media event has no buffer: [] before and after.
+-- What every item promises: the words that it leaves, its reply (status, dword 0, length of data, and the notice beside them, whose own
+-- dword 0 is `noticeNo` of it), and every byte of the answer buffer. A media event has no buffer: [] before and after.
 pub record Answered (ws : List ℕ) (i : Item) (before : List ℕ) (r : Reply) (words buffer : List ℕ) : Type 0 where
   pub table : words ≡ stepWords ws i .table
   pub reply : Replied (stepWords ws i .answer) before r buffer

@@ -6,7 +6,7 @@ use Rattle.desk.specs.Desk.{Desk}
 use Rattle.desk.specs.Words.{deskWords}
 use Rattle.record.specs.declared.Record.{Record}
 
--- the sets; and 02's waiting requests, with what tells whether one is to be served
+-- the sets; and 02's desk: whether notices are on and masked, the flag, and the requests that wait
 pub record Card : Type 0 where
   pub sets : List Record
   pub desk : Desk
@@ -20,7 +20,7 @@ cardWith sets desk = record { sets = sets; desk = desk }
 abbrev pub layoutNumber : ℕ
 layoutNumber = 65538
 
--- the header's words: the number of the layout, that of the sets, and from there on the desk's
+-- the header's words: the number of the layout, that of the sets, and from there on the desk's, `deskSize` of them
 abbrev pub headerWords : ℕ
 headerWords = 10
 

@@ -19,4 +19,4 @@ use Rattle.tape.specs.Runs.{runs, RunsHold}
 
 pub runs-hold : RunsHold
 unfolding runs body places place going leaving wordsOf recordOf recordsOf deskAt legalRow legalTable writtenRows written aggregatePage commandIn kindBy commandMeaning meaning refusalOf effectOn concerns touched deskOn atDesk answer stepWords setUp setUpStatus newSets
-runs-hold = (refl, (refl, (refl, (refl, (refl, (refl, (refl, (refl, (refl, tt)))))))))
+runs-hold = (refl, (refl, (refl, (refl, (refl, (refl, (refl, (refl, (refl, (refl, (refl, tt)))))))))))

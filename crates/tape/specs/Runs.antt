@@ -1,7 +1,7 @@
--- Printouts of whole files: 01's "Whole run", and one for each way in which a file can end.
+-- Printouts of whole files: 01's "Whole run", one for each way in which a file can end, and two with a notice.
 use mathlib.Core.Path.{_≡_}
 use mathlib.Core.List.{List, [], _∷_, _++_}
-use Prim.Native.Nat.{ℕ}
+use Prim.Native.Nat.{ℕ, _+_, _*_, _^_}
 use Prim.Native.String.{String}
 use lib.ListN.{take}
 use Rattle.octets.specs.Octets.{bytesOf}
@@ -50,6 +50,13 @@ getWindow = bare (commandOf 0x0A 0x14 7 0)
 abbrev readList : List ℕ
 readList = bare (commandOf 0x02 0x2000B 0 0)
 
+-- 02: Set Features 0Bh, bit 12, and a request
+abbrev turnOn : List ℕ
+turnOn = bare (commandOf 0x09 0x0B 0x1000 0)
+
+abbrev request : ℕ → List ℕ
+request id = bare (commandOf (0x0C + id * 2 ^ 16) 0 0 0)
+
 -- ---- the table: each row has a file, and its printout as text
 
 pub record Run : Type 0 where
@@ -81,6 +88,12 @@ runs =
     ∷ run (setSeven ++ ticked 20 ++ take attributesSize setSeven) "sets 1 0000\n0000 00000000\nbad 1\n"
     -- "or a cut body"
     ∷ run (setSeven ++ take 4 (ticked 20)) "sets 1 0000\nbad 0\n"
+    -- 02: "replay adds a line: identifier, dword 0", right after that of the item that lists a set; it is not counted
+    ∷ run (setSeven ++ turnOn ++ request 5 ++ enabling ++ ticked 20 ++ selectD ++ readOf 91 ++ 0x0A ∷ [])
+    "sets 1 0000\n0000 00000000\n07C8 00000000\n0000 00000000\n0000 00000000\n0000 00000000\n0000 00000000\n0005 000B0402\nbad 6\n"
+    -- "(one just arriving still gets 07C8h first)"
+    ∷ run (setSeven ++ turnOn ++ enabling ++ ticked 20 ++ selectD ++ readOf 91 ++ request 5)
+    "sets 1 0000\n0000 00000000\n0000 00000000\n0000 00000000\n0000 00000000\n0000 00000000\n07C8 00000000\n0005 000B0402\nend 6\n"
     ∷ []
 
 -- proved as `runs-hold` in proofs/RunsHold.antt

@@ -71,7 +71,8 @@ isItem kind body = ltb 0 (itemSize kind) && eqb (length body) (itemSize kind)
 abbrev pub itemIn : ℕ → List ℕ → Option Item
 itemIn kind body = if isItem kind body then some (itemBy kind body) else none
 
--- what an item leaves of the words, and its line, with that of the notice beside its answer; nothing where it is no item
+-- what an item leaves of the words, and its text; nothing where it is no item. 01: "a line per item"; 02: "replay adds a line", after it:
+-- "one just arriving still gets 07C8h first".
 abbrev pub wordsAfter : List ℕ → Option Item → List ℕ
 wordsAfter ws none = ws
 wordsAfter ws (some i) = stepWords ws i .table

@@ -68,6 +68,9 @@ dataHex (b ∷ bs) = hexOf 2 b ++ dataHex bs
 abbrev pub statusDigits : ℕ
 statusDigits = 4
 
+abbrev pub identifierDigits : ℕ
+identifierDigits = 4
+
 abbrev pub dwordDigits : ℕ
 dwordDigits = 8
 
@@ -92,7 +95,7 @@ itemLine a = hexOf statusDigits (a .status) ++ (space ∷ []) ++ hexOf dwordDigi
 
 -- 02: "replay adds a line: identifier, dword 0"
 abbrev pub toldLine : ℕ → List ℕ
-toldLine id = hexOf statusDigits id ++ (space ∷ []) ++ hexOf dwordDigits noticeDword ++ newline ∷ []
+toldLine id = hexOf identifierDigits id ++ (space ∷ []) ++ hexOf dwordDigits noticeDword ++ newline ∷ []
 
 abbrev pub noticeLine : Notice → List ℕ
 noticeLine Unsent = []
@@ -100,7 +103,7 @@ noticeLine (To id) = toldLine id
 
 -- room for it
 abbrev pub noticeRoom : ℕ
-noticeRoom = statusDigits + 1 + dwordDigits + 1
+noticeRoom = identifierDigits + 1 + dwordDigits + 1
 
 -- text put into bytes at a place: the bytes afterwards, and the place after it, which lies within them
 pub record Put (before : List ℕ) (at : ℕ) (text after : List ℕ) (next : ℕ) : Type 0 where

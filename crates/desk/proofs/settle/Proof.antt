@@ -13,7 +13,7 @@ settle-spec =
     (λ c κs. search needs)
     (λ c κs.
     let a = c .before .before .args .a in
-    ltb-true 0 (getD a 3 0) (raised-waits _ a (sym (c .before .raises .ensures) ∙ c .if1 .taken)))
+    ltb-true 0 (getD a 3 0) (raised-waits _ a (sym (c .before .sends .ensures) ∙ c .if1 .taken)))
     (λ c κs. search needs)
-    (λ c. let t = c .before in rw (← t .before .raises .ensures, t .if1 .taken) (c .served .ensures))
-    (λ c. let t = c .before in rw (← t .before .raises .ensures, t .if1 .left) (c .held .ensures)))
+    (λ c. let t = c .before in rw (← t .before .sends .ensures, t .if1 .taken) (c .served .ensures))
+    (λ c. let t = c .before in rw (← t .before .sends .ensures, t .if1 .left) (c .remembered .ensures)))
