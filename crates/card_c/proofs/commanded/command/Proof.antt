@@ -1,8 +1,8 @@
 use mathlib.Core.Path.{sym, _∙_}
+use borrow.Author.Needs.{needs}
 use lib.ListN.{length}
 use Rattle.steps.specs.Items.{command}
 use Rattle.by_value.proofs.Viewed.{is-named, is-viewed}
-use borrow.Author.Needs.{needs}
 use Rattle.card_c.proofs.commanded.command.Statement.{statement}
 use Rattle.card_c.proofs.commanded.command.Tie as tie
 
@@ -11,9 +11,22 @@ command-spec =
     tie.close
     (tie.spec
     (λ c κs. search needs) (λ c κs. search needs) (λ c κs. search needs) (λ c κs. search needs) (λ c κs. search needs) (λ c κs. search needs) (λ c. search needs) (λ c. search needs)
-    (λ c. let s = c .before .before .before .before .before .before .before .before .before .before .before .before .before .before .before .before .args in c .before .before .before .before .answer-named .ensures (command (s .bytes .now) (s .given .now) (length (s .answer .now)))
-    (is-named (s .bytes .now) (s .given .now) (length (s .answer .now)) _ _ (c .before .before .before .before .before .before .before .before .before .before .before .command-in .ensures) (c .before .before .before .before .before .before .before .before .before .before .kind-of .ensures) (sym (c .before .before .before .before .before .before .before .before .is-named .ensures) ∙ c .before .before .before .before .before .before .before .if1 .taken)))
+    (λ c.
+    let at-answer-named = c .before .before .before .before in
+    let at-if1 = at-answer-named .before .before .before in
+    let at-is-named = at-if1 .before in
+    let at-kind-of = at-is-named .before .before in
+    let at-command-in = at-kind-of .before in
+    let start = at-command-in .before .before .before .before .before in
+    let s = start .args in at-answer-named .answer-named .ensures (command (s .bytes .now) (s .given .now) (length (s .answer .now)))
+    (is-named (s .bytes .now) (s .given .now) (length (s .answer .now)) _ _ (at-command-in .command-in .ensures) (at-kind-of .kind-of .ensures) (sym (at-is-named .is-named .ensures) ∙ at-if1 .if1 .taken)))
     (λ c. search needs) (λ c. search needs)
-    (λ c. let s = c .before .before .before .before .before .before .before .before .before .before .before .before .before .before .before .before .args in c .before .before .before .before .answer-view .ensures (command (s .bytes .now) (s .given .now) (length (s .answer .now)))
-    (is-viewed (s .bytes .now) (s .given .now) (length (s .answer .now)) _ _ (c .before .before .before .before .before .before .before .before .before .before .before .command-in .ensures) (c .before .before .before .before .before .before .before .before .before .before .kind-of .ensures) (sym (c .before .before .before .before .before .before .before .before .is-named .ensures) ∙ c .before .before .before .before .before .before .before .if1 .left)))
-    )
+    (λ c.
+    let at-answer-view = c .before .before .before .before in
+    let at-if1 = at-answer-view .before .before .before in
+    let at-is-named = at-if1 .before in
+    let at-kind-of = at-is-named .before .before in
+    let at-command-in = at-kind-of .before in
+    let start = at-command-in .before .before .before .before .before in
+    let s = start .args in at-answer-view .answer-view .ensures (command (s .bytes .now) (s .given .now) (length (s .answer .now)))
+    (is-viewed (s .bytes .now) (s .given .now) (length (s .answer .now)) _ _ (at-command-in .command-in .ensures) (at-kind-of .kind-of .ensures) (sym (at-is-named .is-named .ensures) ∙ at-if1 .if1 .left))))

@@ -7,6 +7,8 @@ lift-if-spec =
     tie.close
     (tie.spec
     (λ c κs. search needs) (λ c. search needs)
-    (λ c. rw (c .before .before .before .before .if1 .taken) (c .before .before .lift .ensures))
-    (λ c. rw (c .if1 .left))
-    )
+    (λ c.
+    let at-lift = c .before .before in
+    let at-if1 = at-lift .before .before in
+    rw (at-if1 .if1 .taken) (at-lift .lift .ensures))
+    (λ c. rw (c .if1 .left)))

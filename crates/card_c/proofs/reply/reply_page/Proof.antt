@@ -1,7 +1,7 @@
 use mathlib.Core.Path.{_∙_}
+use borrow.Author.Needs.{needs}
 use Rattle.octets.proofs.Pages.{placed}
 use Rattle.card_c.specs.Entries.{replyPage}
-use borrow.Author.Needs.{needs}
 use Rattle.card_c.proofs.reply.reply_page.Statement.{statement}
 use Rattle.card_c.proofs.reply.reply_page.Tie as tie
 
@@ -11,5 +11,13 @@ reply-page-spec =
     tie.close
     (tie.spec
     (λ c κs. search needs) (λ c κs. search needs) (λ c κs. search needs) (λ c κs. search needs) (λ c κs. search needs) (λ c κs. search needs) (λ c κs. search needs) (λ c. search needs) (λ c. search needs) (λ c κs. search needs)
-    (λ c. c .before .fill .ensures ∙ rw (c .before .before .before .before .before .before .before .before .before .before .from-size .ensures, c .before .before .before .before .before .before .before .before .from-short .ensures, c .before .before .before .before .before .before .before .before .before .told-no .ensures, c .before .before .before .before .before .before .from-short2 .ensures, c .before .before .before .before .before .before .before .to-no .ensures, c .before .before .before .before .from-u32 .ensures, c .before .before .before .before .before .notice-no .ensures) (placed 16 _))
-    )
+    (λ c.
+    let at-fill = c .before in
+    let at-from-u32 = at-fill .before .before .before in
+    let at-notice-no = at-from-u32 .before in
+    let at-from-short2 = at-notice-no .before in
+    let at-to-no = at-from-short2 .before in
+    let at-from-short = at-to-no .before in
+    let at-told-no = at-from-short .before in
+    let at-from-size = at-told-no .before in
+    at-fill .fill .ensures ∙ rw (at-from-size .from-size .ensures, at-from-short .from-short .ensures, at-told-no .told-no .ensures, at-from-short2 .from-short2 .ensures, at-to-no .to-no .ensures, at-from-u32 .from-u32 .ensures, at-notice-no .notice-no .ensures) (placed 16 _)))
