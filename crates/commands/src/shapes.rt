@@ -156,12 +156,22 @@ pub fn shape_of(k: Kind) -> Shape
     }
 }
 
-// By opcode, then by FID, CNS or page; the last of an opcode stands for one that is not listed.
+// By opcode, in two groups, so that three comparisons are enough and no table is looked up; then by FID, CNS or page. The last of an
+// opcode stands for one that is not listed.
 pub fn kind_of(c: Command) -> Kind
     ensures { λ r. ⌜ r ≡ kindOf c ⌝ }
 {
     let opcode = opcode_of(c);
     let choice = chosen_by(c);
+    if opcode < SET {
+        if opcode == LOG {
+            if choice == LATENCY {
+                return Kind::ReadLatency;
+            }
+            return Kind::ReadAggregate;
+        }
+        return Kind::Identify;
+    }
     if opcode == SET {
         if choice == NOTICES {
             return Kind::SetNotices;
@@ -179,12 +189,6 @@ pub fn kind_of(c: Command) -> Kind
             return Kind::GetConfig;
         }
         return Kind::GetWindow;
-    }
-    if opcode == LOG {
-        if choice == LATENCY {
-            return Kind::ReadLatency;
-        }
-        return Kind::ReadAggregate;
     }
     if opcode == REQUEST {
         return Kind::EventRequest;
