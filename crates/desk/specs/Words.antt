@@ -2,7 +2,7 @@
 use mathlib.Core.Path.{_≡_}
 use mathlib.Core.Bool.{Bool, true, not, _&&_, _||_}
 use mathlib.Core.List.{List, [], _∷_, map}
-use Prim.Native.Nat.{ℕ, _%_, _^_}
+use Prim.Native.Nat.{ℕ, _+_, _%_, _^_}
 use lib.Dec.{leb, ltb, eqb}
 use lib.ListN.{length, getD, take, drop}
 use Rattle.octets.specs.Choice.{bit}
@@ -13,7 +13,19 @@ use Rattle.desk.specs.Desk.{Desk, deskOf, requestsMaximum, identifierMax
 abbrev pub deskSize : ℕ
 deskSize = 8
 
--- where in them the identifiers begin
+-- which word is which: notices on, masked, the flag, how many requests wait, and from there on their identifiers
+abbrev pub onWord : ℕ
+onWord = 0
+
+abbrev pub maskedWord : ℕ
+maskedWord = 1
+
+abbrev pub flagWord : ℕ
+flagWord = 2
+
+abbrev pub countWord : ℕ
+countWord = 3
+
 abbrev pub firstWaiting : ℕ
 firstWaiting = 4
 
@@ -24,8 +36,8 @@ deskWords d = bit (d .on) ∷ bit (d .masked) ∷ bit (d .flag) ∷ length (d .w
 -- the desk of such words: of an identifier's word as much as it holds
 abbrev pub deskIn : List ℕ → Desk
 deskIn a =
-    deskOf (eqb (getD a 0 0) 1) (eqb (getD a 1 0) 1) (eqb (getD a 2 0) 1)
-    (map (λ x. x % 2 ^ 16) (take (getD a 3 0) (drop firstWaiting a)))
+    deskOf (eqb (getD a onWord 0) 1) (eqb (getD a maskedWord 0) 1) (eqb (getD a flagWord 0) 1)
+    (map (λ x. x % 2 ^ 16) (take (getD a countWord 0) (drop firstWaiting a)))
 
 -- ---- the words of a legal desk, word by word
 
@@ -35,20 +47,20 @@ placeLegal used x = leb x identifierMaximum && (used || eqb x 0)
 
 -- "no flag that could be served at once"
 abbrev pub servable : List ℕ → Bool
-servable a = eqb (getD a 2 0) 1 && eqb (getD a 0 0) 1 && eqb (getD a 1 0) 0 && ltb 0 (getD a 3 0)
+servable a = eqb (getD a flagWord 0) 1 && eqb (getD a onWord 0) 1 && eqb (getD a maskedWord 0) 0 && ltb 0 (getD a countWord 0)
 
--- "Legal: at most four waiting, and no flag that could be served at once.": words 0, 1 and 2 are 0 or 1, word 3 is at most four, and the
--- identifiers stand "oldest" first, without gaps
+-- "Legal: at most four waiting, and no flag that could be served at once.": on, masked and the flag are 0 or 1, at most four wait, and
+-- the identifiers stand "oldest" first, without gaps
 abbrev pub deskLegal : List ℕ → Bool
 deskLegal a =
-    leb (getD a 0 0) 1
-    && leb (getD a 1 0) 1
-    && leb (getD a 2 0) 1
-    && leb (getD a 3 0) requestsMaximum
-    && placeLegal (ltb 0 (getD a 3 0)) (getD a 4 0)
-    && placeLegal (ltb 1 (getD a 3 0)) (getD a 5 0)
-    && placeLegal (ltb 2 (getD a 3 0)) (getD a 6 0)
-    && placeLegal (ltb 3 (getD a 3 0)) (getD a 7 0)
+    leb (getD a onWord 0) 1
+    && leb (getD a maskedWord 0) 1
+    && leb (getD a flagWord 0) 1
+    && leb (getD a countWord 0) requestsMaximum
+    && placeLegal (ltb 0 (getD a countWord 0)) (getD a firstWaiting 0)
+    && placeLegal (ltb 1 (getD a countWord 0)) (getD a (firstWaiting + 1) 0)
+    && placeLegal (ltb 2 (getD a countWord 0)) (getD a (firstWaiting + 2) 0)
+    && placeLegal (ltb 3 (getD a countWord 0)) (getD a (firstWaiting + 3) 0)
     && not (servable a)
 
 -- Such words are those of a legal desk, and those of a legal desk are such words. Proved as `legal-words` and `legal-desks` in
