@@ -49,7 +49,7 @@ fn show_all(page: &mut [u8], table: &[u64], from: SetId) -> usize
     let n = count_of(table);
     let mut to = FIRST_ENTRY;
     let mut i = 0;
-    while i < n {
+    while (i < n) & (to < IDENTIFY_SIZE) {
         to = show_slot(page, to, table, Slot(i), from);
         i += 1;
     }

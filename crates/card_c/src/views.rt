@@ -50,7 +50,7 @@ fn show_all(page: &mut [u8], region: &[u8], from: SetId) -> usize
     let n = count_of(region);
     let mut to = FIRST_ENTRY;
     let mut i = 0;
-    while i < n {
+    while (i < n) & (to < IDENTIFY_SIZE) {
         to = show_slot(page, to, region, Slot(i), from);
         i += 1;
     }

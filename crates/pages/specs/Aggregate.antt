@@ -58,9 +58,9 @@ NextIsLowest =
 
 -- ---- the page
 
--- "0Bh, 72 bytes"
+-- 01: "0Bh, 72 bytes", amended by 02: "Page 0Bh becomes 136 bytes."
 abbrev pub aggregateSize : ℕ
-aggregateSize = 72
+aggregateSize = 136
 
 -- where each number lies: "7:0 number of entries, then two bytes each, rising"
 abbrev pub listCount : Place

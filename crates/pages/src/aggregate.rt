@@ -15,7 +15,7 @@ use octets::casts::to_index;
 use record::SetId;
 use record::Slot;
 
-pub const AGGREGATE_SIZE: usize = 72;
+pub const AGGREGATE_SIZE: usize = 136;
 
 const COUNT: Place = Place { at: 0, width: 8 };
 

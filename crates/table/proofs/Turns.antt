@@ -16,7 +16,7 @@ use Rattle.record.specs.Parts.{idOf}
 use Rattle.table.specs.declared.Found.{Found}
 use Rattle.table.specs.declared.Found.the-variants.{At, Nothing}
 use Rattle.table.specs.Layout.{rowWords, wordsOf, recordOf}
-use Rattle.table.specs.Table.{count, rowStart, row, rowsFrom, recordsOf, legalAfter, legalRows, Legal, findFrom, findIn, listedWord}
+use Rattle.table.specs.Table.{count, rowStart, row, rowsFrom, recordsOf, legalAfter, legalRows, Legal, findFrom, findIn, listedWord, maxSets}
 use Rattle.table.proofs.Records.{Row}
 use Rattle.table.proofs.LegalTables.{slot-known}
 
@@ -129,10 +129,10 @@ pub gathered-down : (ws : List ℕ) → Legal ws → (i word : ℕ) → 0 < i �
 gathered-down ws l i word p h g =
     let e : i ≡ i - 1 + 1 = omega arith in gathered-more ws l (count ws) (i - 1) word refl (omega arith) (rw e at g)
 
--- there are at most 31 marks, so the word fits with room for one more
-pub gathered-fits : (ws : List ℕ) → Legal ws → (i word : ℕ) → Gathered ws (count ws) i word → word < 2 ^ 31
-gathered-fits ws l i word g =
-    let m : count ws - i ≤ 31 = omega (arith, l .few) in lt-of-lt-of-le (g .small) (pow-le-pow-right (lit< tt) m)
+-- there are at most as many marks as a word has bits; where k slots are still to come, it has room for k marks more
+pub gathered-fits : (ws : List ℕ) → Legal ws → (i word k : ℕ) → k ≤ i → Gathered ws (count ws) i word → word < 2 ^ (maxSets - k)
+gathered-fits ws l i word k h g =
+    let m : count ws - i ≤ maxSets - k = omega (arith, l .few) in lt-of-lt-of-le (g .small) (pow-le-pow-right (lit< tt) m)
 
 -- ---- the identifiers, from slot i on
 

@@ -22,9 +22,9 @@ use Rattle.table.specs.declared.Entry.the-variants.{Bad, Unknown, Here}
 use Rattle.table.specs.Layout.{rowWords, wordsOf, recordOf}
 use Rattle.table.specs.Card.{Card, cardWith, layoutNumber, headerWords, deskStart, header}
 
--- "Up to 31 sets."
+-- 01: "Up to 31 sets.", amended by 02: "Raise the limit to 64."
 abbrev pub maxSets : ℕ
-maxSets = 31
+maxSets = 64
 
 -- what the header says: the number of the layout, and that of the sets
 abbrev pub layout : List ℕ → ℕ
@@ -96,7 +96,7 @@ abbrev pub legalSets : ℕ → List Record → Bool
 legalSets before [] = true
 legalSets before (r ∷ rs) = legalRecord r && ltb before (idOf r) && legalSets (idOf r) rs
 
--- "1 to 31 sets", and room that is not too short for them
+-- 01: "1 to 31 sets", by 02 up to 64; and room that is not too short for them
 abbrev pub roomFor : ℕ → ℕ → Bool
 roomFor n room = inRange maxSets n && leb (rowStart n) room
 

@@ -30,7 +30,7 @@ use record::SetId;
 use record::Slot;
 use replies::Notice;
 
-pub const MAX_SETS: usize = 31;
+pub const MAX_SETS: usize = 64;
 
 pub enum Found {
     At(Slot),

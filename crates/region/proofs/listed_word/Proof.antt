@@ -27,7 +27,7 @@ listed-word-spec =
     (λ c.
     let l = c .before .loop in
     let s = c .before .before .before .before in
-    omega (arith, gathered-fits (tableIn (s .args .bytes .now)) (s .pre) (l .i) (l .word) (l .inv .1)))
+    omega (arith, gathered-fits (tableIn (s .args .bytes .now)) (s .pre) (l .i) (l .word) 1 (c .loop-test .taken) (l .inv .1)))
     (λ c. let s = c .before .before .before .before in omega (arith, c .before .loop .inv .0, s .pre .few))
     (λ c. let s = c .before .before .before .before in omega (arith, c .before .loop .inv .0, s .pre .few))
     (λ c. let s = c .before .before .before .before in omega (arith, c .before .loop .inv .0, s .pre .few))
@@ -39,7 +39,7 @@ listed-word-spec =
     let l = t .before .loop in
     let s = t .before .before .before .before in
     let ws = tableIn (s .args .bytes .now) in
-    omega (arith, c .word-of .ensures, gathered-fits ws (s .pre) (l .i - 1) _ (gathered-down ws (s .pre) (l .i) (l .word) (t .loop-test .taken) (l .inv .0) (l .inv .1))))
+    omega (arith, c .word-of .ensures, gathered-fits ws (s .pre) (l .i - 1) _ 0 (omega arith) (gathered-down ws (s .pre) (l .i) (l .word) (t .loop-test .taken) (l .inv .0) (l .inv .1))))
     (λ c. search needs)
     (λ c.
     let t = c .before in

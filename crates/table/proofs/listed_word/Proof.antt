@@ -25,13 +25,13 @@ listed-word-spec =
     (λ c.
     let l = c .before .loop in
     let s = c .before .before .before .before .before in
-    omega (arith, gathered-fits (s .args .table .now) (s .pre) (l .i) (l .word) (l .inv .1)))
+    omega (arith, gathered-fits (s .args .table .now) (s .pre) (l .i) (l .word) 1 (c .loop-test .taken) (l .inv .1)))
     (λ c. search needs) (λ c. search needs) (λ c. search needs) (λ c. search needs) (λ c. search needs)
     (λ c.
     let l = c .before .before .loop in
     let s = c .before .before .before .before .before .before in
     let ws = s .args .table .now in
-    omega (arith, gathered-fits ws (s .pre) (l .i - 1) _ (gathered-down ws (s .pre) (l .i) (l .word) (c .before .loop-test .taken) (l .inv .0) (l .inv .1))))
+    omega (arith, gathered-fits ws (s .pre) (l .i - 1) _ 0 (omega arith) (gathered-down ws (s .pre) (l .i) (l .word) (c .before .loop-test .taken) (l .inv .0) (l .inv .1))))
     (λ c. search needs)
     (λ c.
     let l = c .before .before .loop in
