@@ -20,7 +20,7 @@ use Rattle.table.specs.Table.{deskAt, withDesk, DeskThere, Tells, legalTable}
 use Rattle.table.proofs.LegalTables.{legal-known, desk-there}
 use Rattle.table.proofs.Desks.{quiet-tells}
 use Rattle.table.proofs.Written.{written-desk}
-use Rattle.pages.specs.Identify.{identifySize, identifyFields, shown, identifyPage}
+use Rattle.pages.specs.Identify.{identifySize, identifyFields, inOneAnswer, identifyPage}
 use Rattle.record.specs.declared.Attributes.{Attributes}
 use Rattle.commands.specs.declared.Command.{Command}
 use Rattle.commands.specs.declared.Kind.{Kind}
@@ -129,7 +129,7 @@ notices-read ws i c given before m e s es on w x z eo ew ex =
 -- how long Identify's page is
 pub list-long : (from : ℕ) (sets : List Attributes) → identifySize ≡ length (identifyPage from sets)
 unfolding identifyPage
-list-long from sets = sym (length-place identifySize (identifyFields (shown from sets)))
+list-long from sets = sym (length-place identifySize (identifyFields (inOneAnswer from sets)))
 
 -- ---- which command it is
 

@@ -1,11 +1,15 @@
 -- The pages of the whole card: the identifiers and marks of all sets, and a turn of Identify's loop.
-use mathlib.Core.Path.{_≡_, sym, ap, _∙_}
-use mathlib.Core.List.{List, _∷_, map}
+use mathlib.Core.Path.{_≡_, refl, sym, ap, _∙_}
+use mathlib.Core.Bool.{Bool, true, false, _&&_}
+use mathlib.Core.List.{List, [], _∷_, map}
 use Prim.Native.Nat.{ℕ, _+_, _-_, _*_, _^_, _≤_, _<_}
 use native.Mathlib.Omega.{arith}
 use native.Mathlib.Nat.{sub-zero}
+use lib.Dec.{ltb}
+use borrow.Author.Tests.{ltb-true, ltb-false}
 use lib.ListN.{length, take, replicate, length-map}
 use lib.Seq.{sets}
+use Rattle.octets.proofs.JoinedTests.{both}
 use Rattle.octets.proofs.Runs.{part-same}
 use Rattle.record.specs.declared.Attributes.{Attributes}
 use Rattle.record.specs.Parts.{idOf}
@@ -14,9 +18,9 @@ use Rattle.table.specs.Table.{count, row, recordsOf, Legal, listedMarks, listed
 use Rattle.table.proofs.LegalTables.{length-records}
 use Rattle.table.proofs.Turns.{later, later-none, later-more, later-all}
 use Rattle.pages.specs.Aggregate.{listedBy, aggregatePage}
-use Rattle.pages.specs.Identify.{identifyEntries, entrySize, firstEntry, Shows}
+use Rattle.pages.specs.Identify.{identifySize, entrySize, firstEntry, Shows}
 use Rattle.pages.proofs.Listed.{word-below, one-word}
-use Rattle.pages.proofs.Entries.{Showing, show-start, show-room, show-turn, show-end}
+use Rattle.pages.proofs.Entries.{Showing, show-start, show-room, show-turn, show-end, show-full}
 use Rattle.steps.specs.Commanded.{listedIds}
 use Rattle.by_value.specs.Views.{attributesOf, ShowsAll}
 
@@ -57,31 +61,42 @@ module _ (ws : List ℕ) (l : Legal ws) (n : ℕ) (ids : List ℕ) (word : ℕ) 
 abbrev pub laterAttributes : List ℕ → ℕ → ℕ → List Attributes
 laterAttributes ws n i = attributesOf (later ws n i)
 
+-- the loop's test: of n sets one is left at slot i, and there is room
+abbrev pub goesOn : ℕ → ℕ → ℕ → Bool
+goesOn n i to = ltb i n && ltb to identifySize
+
+pub left-over : (n m i to : ℕ) → n ≡ m → goesOn n i to ≡ true → i < m
+left-over n m i to e t = rw e at (ltb-true i n (both (ltb i n) _ t .0))
+
 module _ (page₀ ws : List ℕ) (from n : ℕ) (en : n ≡ count ws) where
   -- what stands on the page and what is left to show at slot i
   abbrev pub Going : List ℕ → ℕ → ℕ → Type 0
   Going page to i = Showing page₀ from (attributesOf (recordsOf ws)) page to (laterAttributes ws n i)
 
-  pub going-start : firstEntry + entrySize * count ws ≤ length page₀ → Going page₀ firstEntry 0
-  going-start h =
-      let m : length (attributesOf (recordsOf ws)) ≡ count ws = simp length-map (length-records ws) in
-      rw (later-all ws n en) (show-start page₀ from (attributesOf (recordsOf ws)) (rw m h))
+  pub going-start : Going page₀ firstEntry 0
+  going-start = rw (later-all ws n en) (show-start page₀ from (attributesOf (recordsOf ws)))
 
-  module _ (page : List ℕ) (to i : ℕ) (h : i < n) (g : Going page to i) where
+  module _ (page : List ℕ) (to i : ℕ) (t : goesOn n i to ≡ true) (g : Going page to i) where
+    more : to < identifySize
+    more = ltb-true to identifySize (both (ltb i n) _ t .1)
+
     next : Showing page₀ from (attributesOf (recordsOf ws)) page to (recordOf (row ws i) .attributes ∷ laterAttributes ws n (i + 1))
-    next = rw (later-more ws n i h) at g
+    next = rw (later-more ws n i (left-over n n i to refl t)) at g
 
-    pub going-room : to + entrySize ≤ length page
-    going-room = show-room page₀ from (attributesOf (recordsOf ws)) page to _ _ next
+    pub going-room : identifySize ≤ length page₀ → to + entrySize ≤ length page
+    going-room = show-room page₀ from (attributesOf (recordsOf ws)) page to _ _ next more
 
     pub going-on : (after : List ℕ) (to′ : ℕ) → Shows from (recordOf (row ws i) .attributes) page to after to′ → Going after to′ (i + 1)
-    going-on after to′ s = show-turn page₀ from (attributesOf (recordsOf ws)) page to _ _ next after to′ s
+    going-on after to′ s = show-turn page₀ from (attributesOf (recordsOf ws)) page to _ _ next more after to′ s
 
-  pub going-end : (page : List ℕ) (to i : ℕ) → n ≤ i → Going page to i → ShowsAll from (attributesOf (recordsOf ws)) page₀ page to
-  going-end page to i h g =
-      let e = show-end page₀ from (attributesOf (recordsOf ws)) page to (rw (later-none ws n i h) at g) in
-      record { place = e .0; entries = e .1 }
+  ending : (page : List ℕ) (to : ℕ) → Showing page₀ from (attributesOf (recordsOf ws)) page to [] → ShowsAll from (attributesOf (recordsOf ws)) page₀ page to
+  ending page to s = let e = show-end page₀ from (attributesOf (recordsOf ws)) page to s in record { place = e .0; entries = e .1 }
 
--- a legal table has no more sets than Identify has entries
-pub shown-few : (ws : List ℕ) → Legal ws → length (attributesOf (recordsOf ws)) ≤ identifyEntries
-shown-few ws l = simp length-map (omega (arith, length-records ws, l .few))
+  -- no set is left, or no room
+  ended-by : (b : Bool) (page : List ℕ) (to i : ℕ) → ltb i n ≡ b → b && ltb to identifySize ≡ false → Going page to i
+      → ShowsAll from (attributesOf (recordsOf ws)) page₀ page to
+  ended-by false page to i e t g = ending page to (rw (later-none ws n i (ltb-false i n e)) at g)
+  ended-by true page to i e t g = ending page to (show-full page₀ from (attributesOf (recordsOf ws)) page to (laterAttributes ws n i) (ltb-false to identifySize t) g)
+
+  pub going-end : (page : List ℕ) (to i : ℕ) → goesOn n i to ≡ false → Going page to i → ShowsAll from (attributesOf (recordsOf ws)) page₀ page to
+  going-end page to i t g = ended-by (ltb i n) page to i refl t g

@@ -6,13 +6,13 @@ use lib.ListN.{length}
 use Rattle.octets.specs.Pages.{puts}
 use Rattle.record.specs.declared.Attributes.{Attributes}
 use Rattle.record.specs.declared.Record.{Record}
-use Rattle.pages.specs.Identify.{entrySize, firstEntry, shown, entriesAt}
+use Rattle.pages.specs.Identify.{entrySize, firstEntry, inOneAnswer, entriesAt}
 
 -- the attributes of all sets
 abbrev pub attributesOf : List Record → List Attributes
 attributesOf rs = map (λ r. r .attributes) rs
 
--- all sets that are to be shown, put on a page from its first entry on: the page after them, and the next place
+-- the sets of one answer, put on a page from its first entry on: the page after them, and the next place
 pub record ShowsAll (from : ℕ) (all : List Attributes) (page after : List ℕ) (next : ℕ) : Type 0 where
-  pub place : next ≡ firstEntry + entrySize * length (shown from all)
-  pub entries : after ≡ puts page (entriesAt firstEntry (shown from all))
+  pub place : next ≡ firstEntry + entrySize * length (inOneAnswer from all)
+  pub entries : after ≡ puts page (entriesAt firstEntry (inOneAnswer from all))

@@ -4,9 +4,9 @@ ghost use Prim.Native.Nat.{_+_, _*_, _≤_};
 ghost use lib.ListN.{length};
 ghost use lib.Seq.{sets};
 ghost use Rattle.table.specs.Layout.{recordOf};
-ghost use Rattle.table.specs.Table.{count, rowStart, row, recordsOf, Legal};
+ghost use Rattle.table.specs.Table.{rowStart, row, recordsOf, Legal};
 ghost use Rattle.pages.specs.Aggregate.{aggregatePage};
-ghost use Rattle.pages.specs.Identify.{firstEntry, entrySize, identifySize, identifyPage, Shows};
+ghost use Rattle.pages.specs.Identify.{entrySize, identifySize, identifyPage, Shows};
 ghost use Rattle.steps.specs.Commanded.{listedIds};
 ghost use Rattle.by_value.specs.Views.{attributesOf, ShowsAll};
 use pages::aggregate::AGGREGATE_SIZE;
@@ -42,8 +42,9 @@ fn show_slot(page: &mut [u8], to: usize, table: &[u64], slot: Slot, from: SetId)
     show(page, to, a, from)
 }
 
+// The sets of one answer: it ends with the last of them, or with the page.
 fn show_all(page: &mut [u8], table: &[u64], from: SetId) -> usize
-    requires { ⌜ Legal (now table) × (firstEntry + entrySize * count (now table) ≤ length (now page)) ⌝ }
+    requires { ⌜ Legal (now table) × (identifySize ≤ length (now page)) ⌝ }
     ensures { λ r. ⌜ ShowsAll (from .0) (attributesOf (recordsOf (now (table .entry)))) (now (page .entry)) (now (page .exit)) r ⌝ }
 {
     let n = count_of(table);

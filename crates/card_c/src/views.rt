@@ -3,9 +3,9 @@ ghost use mathlib.Core.Path.{_≡_};
 ghost use Prim.Native.Nat.{_+_, _*_, _/_, _≤_};
 ghost use lib.ListN.{length};
 ghost use lib.Seq.{sets};
-ghost use Rattle.table.specs.Table.{count, rowStart, recordsOf, Legal};
+ghost use Rattle.table.specs.Table.{rowStart, recordsOf, Legal};
 ghost use Rattle.pages.specs.Aggregate.{aggregatePage};
-ghost use Rattle.pages.specs.Identify.{firstEntry, entrySize, identifySize, identifyPage, Shows};
+ghost use Rattle.pages.specs.Identify.{entrySize, identifySize, identifyPage, Shows};
 ghost use Rattle.region.specs.Region.{tableIn, recordAt};
 ghost use Rattle.steps.specs.Commanded.{listedIds};
 ghost use Rattle.octets.specs.Words.{wordSize};
@@ -43,8 +43,9 @@ fn show_slot(page: &mut [u8], to: usize, region: &[u8], slot: Slot, from: SetId)
     show(page, to, a, from)
 }
 
+// The sets of one answer: it ends with the last of them, or with the page.
 fn show_all(page: &mut [u8], region: &[u8], from: SetId) -> usize
-    requires { ⌜ Legal (tableIn (now region)) × (firstEntry + entrySize * count (tableIn (now region)) ≤ length (now page)) ⌝ }
+    requires { ⌜ Legal (tableIn (now region)) × (identifySize ≤ length (now page)) ⌝ }
     ensures { λ r. ⌜ ShowsAll (from .0) (attributesOf (recordsOf (tableIn (now (region .entry))))) (now (page .entry)) (now (page .exit)) r ⌝ }
 {
     let n = count_of(region);

@@ -3,12 +3,12 @@ use mathlib.Core.Path.{_≡_, refl, sym, ap, _∙_}
 use mathlib.Core.Bool.{Bool, true, false}
 use mathlib.Core.List.{List, [], _∷_, _++_}
 use mathlib.Core.Logic.{inr}
-use Prim.Native.Nat.{ℕ, suc, _+_, _*_, _-_, _/_, _≤_, _<_}
+use Prim.Native.Nat.{ℕ, zero, suc, _+_, _*_, _-_, _/_, _≤_, _<_}
 use native.Mathlib.Omega.{arith}
-use native.Mathlib.Nat.{add-zero}
+use native.Mathlib.Nat.{add-zero, sub-zero, suc-sub-suc}
 use borrow.Author.Tests.{leb-true, le-leb, lt-leb}
 use lib.Dec.{leb}
-use lib.ListN.{length, replicate, length-append}
+use lib.ListN.{length, take, length-append, length-take}
 use lib.Seq.{sets}
 use Rattle.octets.specs.Octets.{bytesOf}
 use borrow.Author.Needs.{needs}
@@ -19,7 +19,7 @@ use Rattle.octets.proofs.Pages.{placed, made-onto, read-back, puts-more}
 use Rattle.octets.proofs.Pages.{length-puts}
 use Rattle.record.specs.declared.Attributes.{Attributes}
 use Rattle.pages.specs.Bodies.{Sized, AllSized}
-use Rattle.pages.specs.Identify.{identifySize, entrySize, firstEntry, identifyEntries, shownIf, shown, entryFields, entriesAt, identifyFields, identifyPage, Shows}
+use Rattle.pages.specs.Identify.{identifySize, entrySize, firstEntry, identifyEntries, shownIf, shown, inOneAnswer, entryFields, entriesAt, identifyFields, identifyPage, Shows}
 
 -- the fields of an entry stand in order, and what follows them after its last
 entry-tidy : (to from size : ℕ) (a : Attributes) (fs : List Field) → from ≤ to → tidy (to + 40 + 8) size fs ≡ true → tidy from size (entryFields to a ++ fs) ≡ true
@@ -82,83 +82,84 @@ put-later (f ∷ fs) l v from size h o =
     put-later fs (sets l (f .at) u) v (f .at + f .width) size (b .1) (omega arith)
     ∙ ap (λ (m : List ℕ). puts m fs) (sym (sets-comm u v l 0 (f .at) (inr (omega arith))))
 
--- ---- a loop that shows sets one after the other
+-- ---- a loop that shows sets one after the other, until none is left or the page is full
 
--- what holds at each turn: showing the sets that are left, from here, is showing them all on the page as it was
+-- what holds at each turn: there is room for so many more entries, and showing as many of the sets that are left, from here, is showing
+-- the sets of one answer on the page as it was
 pub record Showing (page₀ : List ℕ) (from : ℕ) (all : List Attributes) (page : List ℕ) (to : ℕ) (left : List Attributes) : Type 0 where
+  pub spare : ℕ
   pub long : length page ≡ length page₀
-  pub room : to + entrySize * length left ≤ length page₀
-  pub count : to + entrySize * length (shown from left) ≡ firstEntry + entrySize * length (shown from all)
-  pub same : puts page (entriesAt to (shown from left)) ≡ puts page₀ (entriesAt firstEntry (shown from all))
+  pub room : to + entrySize * spare ≡ identifySize
+  pub count : to + entrySize * length (take spare (shown from left)) ≡ firstEntry + entrySize * length (inOneAnswer from all)
+  pub same : puts page (entriesAt to (take spare (shown from left))) ≡ puts page₀ (entriesAt firstEntry (inOneAnswer from all))
+
+-- where there is room for one more, the first set and then the rest
+taken-first : (b : Bool) (a : Attributes) (others : List Attributes) (n : ℕ) → 0 < n
+    → take n (shownIf b a others) ≡ shownIf b a [] ++ take (n - length (shownIf b a [])) others
+taken-first true a others (suc n) h = rw (suc-sub-suc n 0, sub-zero)
+taken-first false a others n h = rw sub-zero
+
+taken-none : (from n : ℕ) → take n (shown from []) ≡ []
+taken-none from zero = refl
+taken-none from (suc n) = refl
 
 module _ (page₀ : List ℕ) (from : ℕ) (all : List Attributes) where
-  pub show-start : firstEntry + entrySize * length all ≤ length page₀ → Showing page₀ from all page₀ firstEntry all
-  show-start h = record { long = refl; room = h; count = refl; same = refl }
+  pub show-start : Showing page₀ from all page₀ firstEntry all
+  show-start = record { spare = identifyEntries; long = refl; room = refl; count = refl; same = refl }
 
-  module _ (page : List ℕ) (to : ℕ) (a : Attributes) (left : List Attributes) (s : Showing page₀ from all page to (a ∷ left)) where
-    pub show-room : to + entrySize ≤ length page
-    show-room = omega arith
+  module _ (page : List ℕ) (to : ℕ) (a : Attributes) (left : List Attributes) (s : Showing page₀ from all page to (a ∷ left)) (more : to < identifySize) where
+    pub show-room : identifySize ≤ length page₀ → to + entrySize ≤ length page
+    show-room h = omega (arith, s .room, s .long, more)
 
     pub show-turn : (after : List ℕ) (next : ℕ) → Shows from a page to after next → Showing page₀ from all after next left
     show-turn after next d =
+        let n : ℕ = s .spare in
         let one : List Attributes = shown from (a ∷ []) in
-        let rest : List Attributes = shown from left in
-        let split : shown from (a ∷ left) ≡ one ++ rest = shown-first from a left in
         let few : length one ≤ 1 = one-at-most (leb from (a .id .0)) a in
-        let n : length (shown from (a ∷ left)) ≡ length one + length rest = ap length split ∙ length-append one rest in
-        let goes : puts page (entriesAt to (shown from (a ∷ left))) ≡ puts (puts page (entriesAt to one)) (entriesAt (to + entrySize * length one) rest) =
+        let some : 0 < n = omega (arith, s .room, more) in
+        let rest : List Attributes = take (n - length one) (shown from left) in
+        let split : take n (shown from (a ∷ left)) ≡ one ++ rest = taken-first (leb from (a .id .0)) a (shown from left) n some in
+        let m : length (take n (shown from (a ∷ left))) ≡ length one + length rest = ap length split ∙ length-append one rest in
+        let goes : puts page (entriesAt to (take n (shown from (a ∷ left)))) ≡ puts (puts page (entriesAt to one)) (entriesAt (to + entrySize * length one) rest) =
         ap (λ (l : List Attributes). puts page (entriesAt to l)) split
         ∙ ap (puts page) (entries-more one rest to)
         ∙ puts-more (entriesAt to one) (entriesAt (to + entrySize * length one) rest) page
         in record {
+          spare = n - length one;
           long = ap length (d .entry) ∙ length-puts (entriesAt to one) page ∙ s .long;
-          room = omega arith;
-          count = omega arith;
+          room = omega (arith, s .room, d .place, few, some);
+          count = omega (arith, s .count, d .place, m);
           same = rw (d .place, d .entry) (sym goes ∙ s .same);
         }
 
-  -- none is left: all are shown
+  -- none is left: those of one answer are shown
   pub show-end : (page : List ℕ) (to : ℕ) → Showing page₀ from all page to []
-      → (to ≡ firstEntry + entrySize * length (shown from all)) × (page ≡ puts page₀ (entriesAt firstEntry (shown from all)))
-  show-end page to s = (omega arith, s .same)
+      → (to ≡ firstEntry + entrySize * length (inOneAnswer from all)) × (page ≡ puts page₀ (entriesAt firstEntry (inOneAnswer from all)))
+  show-end page to s = let e = taken-none from (s .spare) in (omega (arith, ap length e, s .count), rw e at (s .same))
 
--- the count, put when all are shown, completes the page
-pub show-whole : (from : ℕ) (all : List Attributes) (page page′ : List ℕ) (to : ℕ) → to ≡ firstEntry + entrySize * length (shown from all)
-    → page ≡ puts (replicate identifySize 0) (entriesAt firstEntry (shown from all))
-    → page′ ≡ sets page 0 (bytesOf 1 ((to - firstEntry) / entrySize)) → page′ ≡ identifyPage from all
-unfolding identifyPage
-show-whole from all page page′ to et ep ec =
-    let listed : List Attributes = shown from all in
-    let n : (to - firstEntry) / entrySize ≡ length listed = omega arith in
-    ec
-    ∙ ap (λ (k : ℕ). sets page 0 (bytesOf 1 k)) n
-    ∙ ap (λ (l : List ℕ). sets l 0 (bytesOf 1 (length listed))) ep
-    ∙ put-later (entriesAt firstEntry listed) (replicate identifySize 0) (bytesOf 1 (length listed)) 1 (firstEntry + entrySize * length listed)
-    (entries-tidy listed firstEntry 1 (firstEntry + entrySize * length listed) (omega arith) (omega arith)) (omega arith)
-    ∙ placed identifySize (identifyFields listed)
+  -- the page is full: so they are
+  pub show-full : (page : List ℕ) (to : ℕ) (left : List Attributes) → identifySize ≤ to → Showing page₀ from all page to left → Showing page₀ from all page to []
+  show-full page to left h s =
+      let e : s .spare ≡ 0 = omega (arith, s .room) in
+      record { spare = 0; long = s .long; room = rw e at (s .room); count = rw e at (s .count); same = rw e at (s .same) }
 
-shown-few : (from : ℕ) (xs : List Attributes) → length (shown from xs) ≤ length xs
-shown-few from [] = omega arith
-shown-few from (a ∷ xs) =
-    omega (arith, shown-few from xs, one-at-most (leb from (a .id .0)) a, ap length (shown-first from a xs) ∙ length-append (shown from (a ∷ [])) (shown from xs))
+-- the fields of an answer stand in order
+fields-tidy : (from : ℕ) (all : List Attributes) → tidy 0 identifySize (identifyFields (inOneAnswer from all)) ≡ true
+fields-tidy from all =
+    let n = length-take identifyEntries (shown from all) in
+    entries-tidy (inOneAnswer from all) firstEntry 1 identifySize (omega arith) (omega arith)
 
--- the fields of the page stand in order
-fields-tidy : (from : ℕ) (all : List Attributes) → length all ≤ identifyEntries → tidy 0 identifySize (identifyFields (shown from all)) ≡ true
-fields-tidy from all few =
-    let n = shown-few from all in
-    entries-tidy (shown from all) firstEntry 1 identifySize (omega arith) (omega arith)
-
--- the same where the page is made on the first bytes of an answer: cleared, then all shown there, then the count
+-- the page is made on the first bytes of an answer: cleared, then its sets shown there, then the count
 pub show-onto : (from : ℕ) (all : List Attributes) (answer start page page′ : List ℕ) (to : ℕ)
-    → length all ≤ identifyEntries → identifySize ≤ length answer → start ≡ sets answer 0 (place identifySize [])
-    → to ≡ firstEntry + entrySize * length (shown from all)
-    → page ≡ puts start (entriesAt firstEntry (shown from all))
+    → identifySize ≤ length answer → start ≡ sets answer 0 (place identifySize [])
+    → to ≡ firstEntry + entrySize * length (inOneAnswer from all)
+    → page ≡ puts start (entriesAt firstEntry (inOneAnswer from all))
     → page′ ≡ sets page 0 (bytesOf 1 ((to - firstEntry) / entrySize)) → page′ ≡ sets answer 0 (identifyPage from all)
 unfolding identifyPage
-show-onto from all answer start page page′ to few room es et ep ec =
-    let listed : List Attributes = shown from all in
+show-onto from all answer start page page′ to room es et ep ec =
+    let listed : List Attributes = inOneAnswer from all in
     let n : (to - firstEntry) / entrySize ≡ length listed = omega arith in
-    made-onto identifySize (identifyFields listed) answer start page′ (fields-tidy from all few) room es
+    made-onto identifySize (identifyFields listed) answer start page′ (fields-tidy from all) room es
     (ec
     ∙ ap (λ (k : ℕ). sets page 0 (bytesOf 1 k)) n
     ∙ ap (λ (l : List ℕ). sets l 0 (bytesOf 1 (length listed))) ep
@@ -175,6 +176,11 @@ shown-sized : (from : ℕ) (xs : List Attributes) → AllSized xs → AllSized (
 shown-sized from [] s = tt
 shown-sized from (a ∷ xs) s = sized-if (leb from (a .id .0)) a (shown from xs) (s .0) (shown-sized from xs (s .1))
 
+taken-sized : (n : ℕ) (xs : List Attributes) → AllSized xs → AllSized (take n xs)
+taken-sized zero xs s = tt
+taken-sized (suc n) [] s = tt
+taken-sized (suc n) (a ∷ xs) s = (s .0, taken-sized n xs (s .1))
+
 entries-fit : (xs : List Attributes) (to : ℕ) → AllSized xs → Fit (entriesAt to xs)
 entries-fit [] to s = tt
 entries-fit (a ∷ xs) to s =
@@ -183,10 +189,10 @@ entries-fit (a ∷ xs) to s =
     (z .id, (z .group, (z .«random_read_typical», (z .«optimal_write_size», (z .«total_low», (z .«total_high», (z .«unallocated_low», (z .«unallocated_high», f))))))))
 
 -- the page read at its fields gives back the count and the entries
-pub identify-back : (from : ℕ) (all : List Attributes) → length all ≤ identifyEntries → AllSized all
-    → readings (identifyPage from all) (identifyFields (shown from all)) ≡ values (identifyFields (shown from all))
+pub identify-back : (from : ℕ) (all : List Attributes) → AllSized all
+    → readings (identifyPage from all) (identifyFields (inOneAnswer from all)) ≡ values (identifyFields (inOneAnswer from all))
 unfolding identifyPage
-identify-back from all few s =
-    let n = shown-few from all in
-    read-back identifySize (identifyFields (shown from all)) (fields-tidy from all few)
-    (omega arith, entries-fit (shown from all) firstEntry (shown-sized from all s))
+identify-back from all s =
+    let n = length-take identifyEntries (shown from all) in
+    read-back identifySize (identifyFields (inOneAnswer from all)) (fields-tidy from all)
+    (omega arith, entries-fit (inOneAnswer from all) firstEntry (taken-sized identifyEntries (shown from all) (shown-sized from all s)))

@@ -4,7 +4,7 @@ use mathlib.Core.Bool.{Bool}
 use mathlib.Core.List.{List, [], _∷_, _++_}
 use Prim.Native.Nat.{ℕ, _+_, _*_}
 use lib.Dec.{leb}
-use lib.ListN.{length}
+use lib.ListN.{length, take}
 use Rattle.octets.specs.Choice.{if_then_else_}
 use Rattle.octets.specs.declared.Place.{Place}
 use Rattle.octets.specs.Pages.{Field, span, fieldsAt, placesFrom, puts, place}
@@ -23,7 +23,7 @@ entrySize = 128
 abbrev pub firstEntry : ℕ
 firstEntry = 128
 
--- as many entries as the page has room for, and as there may be sets
+-- 02: "An Identify answer still holds 31 entries": as many as the page has room for
 abbrev pub identifyEntries : ℕ
 identifyEntries = 31
 
@@ -37,6 +37,10 @@ shownIf show a others = if show then a ∷ others else others
 abbrev pub shown : ℕ → List Attributes → List Attributes
 shown from [] = []
 shown from (a ∷ others) = shownIf (leb from (a .id .0)) a (shown from others)
+
+-- of those the first, as many as one answer holds
+abbrev pub inOneAnswer : ℕ → List Attributes → List Attributes
+inOneAnswer from sets = take identifyEntries (shown from sets)
 
 -- ---- the page
 
@@ -88,7 +92,7 @@ identifyFields sets = fieldsAt (identifyCount ∷ []) (length sets ∷ []) ++ en
 
 -- "rest zero"
 unfoldable pub identifyPage : ℕ → List Attributes → List ℕ
-identifyPage from sets = place identifySize (identifyFields (shown from sets))
+identifyPage from sets = place identifySize (identifyFields (inOneAnswer from sets))
 
 -- ---- one set at a time
 

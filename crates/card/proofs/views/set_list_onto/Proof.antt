@@ -1,6 +1,5 @@
 use borrow.Author.Needs.{needs}
 use Rattle.pages.proofs.Entries.{show-onto}
-use Rattle.by_value.proofs.WholeCard.{shown-few}
 use Rattle.card.proofs.views.set_list_onto.Statement.{statement}
 use Rattle.card.proofs.views.set_list_onto.Tie as tie
 
@@ -14,4 +13,4 @@ set-list-onto-spec =
     let h = p .before .before .before .before in
     let d = h .before .before .before .before in
     let s = d .before .before .before .before in
-    show-onto (s .args .from .0) _ (s .args .answer .now) _ _ _ _ (shown-few (s .args .table .now) (s .pre .0)) (s .pre .1) (d .clear .ensures) (h .show-all .ensures .place) (h .show-all .ensures .entries) (p .put-count .ensures)))
+    show-onto (s .args .from .0) _ (s .args .answer .now) _ _ _ _ (s .pre .1) (d .clear .ensures) (h .show-all .ensures .place) (h .show-all .ensures .entries) (p .put-count .ensures)))

@@ -4,7 +4,7 @@ use native.Mathlib.Omega.{arith}
 use borrow.Author.Needs.{needs}
 use lib.ListN.{length}
 use Rattle.table.specs.Table.{count}
-use Rattle.by_value.proofs.WholeCard.{Going, going-start, going-room, going-on, going-end}
+use Rattle.by_value.proofs.WholeCard.{Going, going-start, left-over, going-room, going-on, going-end}
 use Rattle.card.proofs.views.show_all.Statement.{statement}
 use Rattle.card.proofs.views.show_all.Tie as tie
 
@@ -21,20 +21,29 @@ show-all-spec =
     Inv-loop
     μ-loop
     (λ c κs. search needs)
-    (λ c. let s = c .before .before .before in (search needs, search needs, λ e. going-start (s .args .page .now) (s .args .table .now) (s .args .from .0) _ e (s .pre .1)))
+    (λ c. let s = c .before .before .before in (search needs, search needs, λ e. going-start (s .args .page .now) (s .args .table .now) (s .args .from .0) _ e))
     (λ c κs.
     let l = c .before .before .loop in
     let n = c .before .before .before in
     let s = n .before .before .before in
-    let g = going-room (s .args .page .now) (s .args .table .now) (s .args .from .0) _ (n .count-of .ensures) (l .page) (l .to) (l .i) (c .before .loop-test .taken) (l .inv .2 (n .count-of .ensures)) in
-    (g, omega (arith, s .pre .0 .room, n .count-of .ensures, c .before .loop-test .taken)))
-    (λ c. search needs) (λ c. search needs)
+    let g = going-room (s .args .page .now) (s .args .table .now) (s .args .from .0) _ (n .count-of .ensures) (l .page) (l .to) (l .i) (c .before .loop-test .taken) (l .inv .2 (n .count-of .ensures)) (s .pre .1) in
+    let i = left-over _ (count (s .args .table .now)) (l .i) (l .to) (n .count-of .ensures) (c .before .loop-test .taken) in
+    (g, omega (arith, s .pre .0 .room, n .count-of .ensures, i)))
+    (λ c. search needs)
+    (λ c.
+    let t = c .before .before .before .before in
+    let l = t .before .loop in
+    let n = t .before .before in
+    let s = n .before .before .before in
+    omega (arith, n .count-of .ensures, left-over _ (count (s .args .table .now)) (l .i) (l .to) (n .count-of .ensures) (t .loop-test .taken)))
     (λ c.
     let h = c .before .before in
     let t = h .before .before in
     let l = t .before .loop in
-    let s = t .before .before .before .before .before in
-    (search needs, search needs, λ e. going-on (s .args .page .now) (s .args .table .now) (s .args .from .0) _ e (l .page) (l .to) (l .i) (t .loop-test .taken) (l .inv .2 e) _ _ (h .show-slot .ensures)))
+    let n = t .before .before in
+    let s = n .before .before .before in
+    let below = left-over _ (count (s .args .table .now)) (l .i) (l .to) (n .count-of .ensures) (t .loop-test .taken) in
+    (omega (arith, n .count-of .ensures, below), search needs, λ e. going-on (s .args .page .now) (s .args .table .now) (s .args .from .0) _ e (l .page) (l .to) (l .i) (t .loop-test .taken) (l .inv .2 e) _ _ (h .show-slot .ensures)))
     (λ c. search needs)
     (λ c.
     let l = c .before .loop in
