@@ -4,10 +4,10 @@ use Rattle.lending.proofs.list_in.Statement.{statement}
 use Rattle.lending.proofs.list_in.Tie as tie
 
 abbrev Inv-loop : tie.InvT-loop
-Inv-loop bodies list₀ i₀ list i = i ≤ 31
+Inv-loop bodies list₀ i₀ list i = i ≤ 64
 
 abbrev μ-loop : tie.MeasureT-loop
-μ-loop bodies list₀ i₀ list i = 31 - i
+μ-loop bodies list₀ i₀ list i = 64 - i
 
 pub list-in-spec : {M : Type 1} → statement M
 list-in-spec =
