@@ -2,18 +2,19 @@
 use mathlib.Core.Path.{_≡_, refl, sym, ap, ap₂, _∙_}
 use mathlib.Core.Bool.{true}
 use mathlib.Core.List.{List, [], _∷_, _++_}
-use mathlib.Core.Logic.{inl}
-use Prim.Native.Nat.{ℕ, suc, _+_, _-_, _≤_, _<_}
+use mathlib.Core.Logic.{inl, inr}
+use Prim.Native.Nat.{ℕ, zero, suc, _+_, _-_, _≤_, _<_}
 use native.Mathlib.Omega.{arith}
-use native.Mathlib.Nat.{sub-zero}
+use native.Mathlib.Nat.{sub-zero, zero-add}
 use native.Mathlib.Numerals.{add-one}
 use lib.Dec.{leb}
 use lib.ListN.{length, getD, set, drop, replicate, length-set, length-replicate, drop-of-length-le}
 use lib.Seq.{sets, sets-eq, length-sets, drop-cons}
 use borrow.Author.Tests.{leb-true, le-leb}
 use Rattle.octets.specs.Octets.{bytesOf, numberOf, part}
-use Rattle.octets.specs.Pages.{Field, fieldOf, fieldsOf, puts, place, tidy, readings, Fit, values}
-use Rattle.octets.proofs.Runs.{sets-append}
+use Rattle.octets.specs.declared.Place.{Place}
+use Rattle.octets.specs.Pages.{Field, field, fieldsAt, placesFrom, fieldOf, fieldsOf, puts, place, tidy, readings, Fit, values}
+use Rattle.octets.proofs.Runs.{sets-append, part-into}
 use Rattle.octets.proofs.PutAndGet.{length-bytes, get-put, get-other}
 use Rattle.octets.proofs.JoinedTests.{both}
 
@@ -26,13 +27,30 @@ tidy-end (f ∷ fs) from size h =
     omega arith
 
 -- what stands before the fields is as it was
-puts-before : (fs : List Field) (l : List ℕ) (from size d m : ℕ) → tidy from size fs ≡ true → d + m ≤ from → part (puts l fs) d m ≡ part l d m
+pub puts-before : (fs : List Field) (l : List ℕ) (from size d m : ℕ) → tidy from size fs ≡ true → d + m ≤ from → part (puts l fs) d m ≡ part l d m
 puts-before [] l from size d m h o = refl
 puts-before (f ∷ fs) l from size d m h o =
     let b = both _ _ h in
     let k : from ≤ f .at = leb-true from (f .at) (b .0) in
     puts-before fs (sets l (f .at) (bytesOf (f .width) (f .value))) (f .at + f .width) size d m (b .1) (omega arith)
     ∙ get-other l (f .at) (f .width) (f .value) d m (inl (omega arith))
+
+-- and what stands after them
+pub puts-after : (fs : List Field) (l : List ℕ) (from size d m : ℕ) → tidy from size fs ≡ true → size ≤ d → part (puts l fs) d m ≡ part l d m
+puts-after [] l from size d m h o = refl
+puts-after (f ∷ fs) l from size d m h o =
+    let b = both (leb from (f .at)) _ h in
+    let k : f .at + f .width ≤ size = tidy-end fs (f .at + f .width) size (b .1) in
+    puts-after fs (sets l (f .at) (bytesOf (f .width) (f .value))) (f .at + f .width) size d m (b .1) o
+    ∙ get-other l (f .at) (f .width) (f .value) d m (inr (omega arith))
+
+-- a part of a page of zeros
+pub part-zeros : (size at n : ℕ) → at + n ≤ size → part (replicate size 0) at n ≡ replicate n 0
+part-zeros size zero zero h = refl
+part-zeros zero zero (suc n) h = absurd (omega arith)
+part-zeros zero (suc at) n h = absurd (omega arith)
+part-zeros (suc size) zero (suc n) h = ap (_∷_ 0) (part-zeros size 0 n (omega arith))
+part-zeros (suc size) (suc at) n h = part-zeros size at n (omega arith)
 
 back : (fs : List Field) (l : List ℕ) (from : ℕ) → tidy from (length l) fs ≡ true → Fit fs → readings (puts l fs) fs ≡ values fs
 back [] l from h fit = refl
@@ -59,6 +77,18 @@ earlier (f ∷ fs) from size h = rw (le-leb 0 (f .at) (omega arith)) (both (leb 
 pub tidy-first : (f : Field) (fs : List Field) (size : ℕ) → tidy 0 size (f ∷ fs) ≡ true → (f .at + f .width ≤ size) × (tidy 0 size fs ≡ true)
 tidy-first f fs size h =
     let b = both (leb 0 (f .at)) _ h in (tidy-end fs (f .at + f .width) size (b .1), earlier fs (f .at + f .width) size (b .1))
+
+-- what is put at places within a part is put in the part
+pub puts-window : (ps : List Place) (vs l : List ℕ) (from n : ℕ) → tidy 0 n (fieldsAt (placesFrom 0 ps) vs) ≡ true
+    → part (puts l (fieldsAt (placesFrom from ps) vs)) from n ≡ puts (part l from n) (fieldsAt (placesFrom 0 ps) vs)
+puts-window [] vs l from n h = refl
+puts-window (p ∷ ps) [] l from n h = refl
+puts-window (p ∷ ps) (v ∷ vs) l from n h =
+    let t = tidy-first (field (0 + p .at) (p .width) v) (fieldsAt (placesFrom 0 ps) vs) n h in
+    let z : 0 + p .at ≡ p .at = zero-add (p .at) in
+    puts-window ps vs (sets l (from + p .at) (bytesOf (p .width) v)) from n (t .1)
+    ∙ ap (λ (m : List ℕ). puts m (fieldsAt (placesFrom 0 ps) vs))
+    (part-into (bytesOf (p .width) v) l from (p .at) n (omega (arith, t .0, z, length-bytes (p .width) v)) ∙ ap (λ (k : ℕ). sets (part l from n) k (bytesOf (p .width) v)) (sym z))
 
 -- a turn of the loop that puts a table's rows
 module _ (rows : List (List ℕ)) (i : ℕ) where

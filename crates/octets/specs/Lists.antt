@@ -1,8 +1,8 @@
--- Lists by tests. Nothing of the card.
+-- Lists by tests, and lists in order. Nothing of the card.
 use mathlib.Core.Bool.{Bool, false, _||_}
 use mathlib.Core.List.{List, [], _∷_, _++_}
 use mathlib.Core.Option.{Option, none, some}
-use Prim.Native.Nat.{ℕ, zero, suc}
+use Prim.Native.Nat.{ℕ, zero, suc, _<_}
 use Rattle.octets.specs.Choice.{if_then_else_}
 
 -- the first element that passes a test
@@ -36,3 +36,8 @@ abbrev pub beside {ℓ} : {A B : Type ℓ} → (A → Bool) → List A → List 
 beside p [] ys = []
 beside p (x ∷ xs) [] = []
 beside p (x ∷ xs) (y ∷ ys) = if p x then y ∷ beside p xs ys else beside p xs ys
+
+-- numbers that rise, each above the one before it and the first above `before`
+abbrev pub Rising : ℕ → List ℕ → Type 0
+Rising before [] = Unit {0}
+Rising before (n ∷ ns) = (before < n) × Rising n ns

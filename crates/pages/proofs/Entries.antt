@@ -68,7 +68,7 @@ entries-more (a ∷ xs) ys to =
     ap (λ (fs : List Field). entryFields to a ++ fs) (entries-more xs ys (to + entrySize) ∙ rw e)
 
 -- the entries of sets stand in order
-entries-tidy : (xs : List Attributes) (to from size : ℕ) → from ≤ to → to + entrySize * length xs ≤ size → tidy from size (entriesAt to xs) ≡ true
+pub entries-tidy : (xs : List Attributes) (to from size : ℕ) → from ≤ to → to + entrySize * length xs ≤ size → tidy from size (entriesAt to xs) ≡ true
 entries-tidy [] to from size l h = le-leb from size (omega arith)
 entries-tidy (a ∷ xs) to from size l h = entry-tidy to from size a (entriesAt (to + entrySize) xs) l (entries-tidy xs (to + entrySize) (to + 40 + 8) size (omega arith) (omega arith))
 

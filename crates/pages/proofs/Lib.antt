@@ -1,3 +1,4 @@
 pub mod Back
 pub mod Listed
 pub mod Entries
+pub mod Asking

@@ -78,6 +78,10 @@ entryValues a = namesOf a ++ halvesOf (a .total) ++ halvesOf (a .unallocated)
 abbrev pub entryFields : ℕ → Attributes → List Field
 entryFields to a = fieldsAt (placesFrom to entryPlaces) (entryValues a)
 
+-- an entry by itself
+abbrev pub entryPage : Attributes → List ℕ
+entryPage a = place entrySize (entryFields 0 a)
+
 -- the entries of sets, packed from a place
 abbrev pub entriesAt : ℕ → List Attributes → List Field
 entriesAt to [] = []

@@ -4,3 +4,4 @@ pub mod Features
 pub mod Latency
 pub mod Aggregate
 pub mod Identify
+pub mod Asking

@@ -33,12 +33,12 @@ use Rattle.desk.proofs.Sending.{toldIf, told-swap, unserved}
 use Rattle.table.specs.Card.{cardWith}
 use Rattle.table.specs.Table.{legalSets, listedMarks, newly}
 use Rattle.pages.specs.Aggregate.{picked}
-use Rattle.octets.specs.Lists.{nth, first, keep, beside, join}
+use Rattle.octets.specs.Lists.{nth, first, keep, beside, join, Rising}
 use Rattle.steps.specs.Items.{Card, Item, reads, writes, excursion, tick, command, All, Meaning, Nobody, Everybody, The}
 use Rattle.steps.specs.Commanded.{meaningBy, commandMeaning}
 use Rattle.steps.specs.Meanings.{meaning}
 use Rattle.steps.specs.Card.{refusalAll, refusalBy, refusalOf, effectBy, effectOn, ruled, has, names, namesBy, concerns, concernsBy, touched, setsAfter, atDesk, after, answer, run, trace, notices}
-use Rattle.steps.specs.Demands.{alone, toAllBy, toAll, owns, own, OwnRecord, lived, ByRules, OwnAnswers, Joined, raises, noneCleared, raised, pending, noneOf, Listed, StaysListed, PickedIds, Aggregate, Rising, InOrder, Swap, SwapWithin}
+use Rattle.steps.specs.Demands.{alone, toAllBy, toAll, owns, own, OwnRecord, lived, ByRules, OwnAnswers, Joined, raises, noneCleared, raised, pending, noneOf, Listed, StaysListed, PickedIds, Aggregate, InOrder, Swap, SwapWithin}
 use Rattle.octets.proofs.Lists.{if-ap, if-cons, map-id, map-same, map-same-if, nth-map, keep-same, keep-map, first-map, first-fixed}
 use Rattle.steps.proofs.ItemShapes.{bool-cases, named, unnamed, answers, refusals, told-named, fewer-all, fewer, touched-own, touched-not, keeps}
 use Rattle.steps.proofs.Slots.{ordered, found}

@@ -9,7 +9,7 @@ use mathlib.Core.Path.{_≡_}
 use mathlib.Core.Bool.{Bool, true, false, not, _&&_, _||_}
 use mathlib.Core.List.{List, [], _∷_, _++_, map}
 use mathlib.Core.Option.{Option, none, some}
-use Prim.Native.Nat.{ℕ, _*_, _<_}
+use Prim.Native.Nat.{ℕ, _*_}
 use lib.Dec.{eqb}
 use lib.ListN.{length}
 use Rattle.octets.specs.Choice.{if_then_else_}
@@ -31,7 +31,7 @@ use Rattle.table.specs.Card.{cardWith}
 use Rattle.table.specs.Table.{legalSets, legalTable, written, listedMarks}
 use Rattle.pages.specs.Features.{handedBack}
 use Rattle.pages.specs.Aggregate.{picked, aggregatePage}
-use Rattle.octets.specs.Lists.{nth, first, keep, beside, join}
+use Rattle.octets.specs.Lists.{nth, first, keep, beside, join, Rising}
 use Rattle.steps.specs.Items.{Card, Item, reads, writes, excursion, tick, command, GivenBytes, itemOf, All, View, Meaning, Nobody, Everybody, The}
 use Rattle.commands.specs.declared.Kind.{Kind}
 use Rattle.commands.specs.declared.Kind.the-variants.{SetConfig, SetWindow, GetConfig, GetWindow, ReadAggregate}
@@ -258,10 +258,6 @@ AggregateLog =
     ≡ granted 0 (padded (aggregatePage (pendingIds c items)) (offset (commandIn bytes)) (dwords (commandIn bytes) * dwordSize))
 
 -- "rising"
-abbrev pub Rising : ℕ → List ℕ → Type 0
-Rising before [] = Unit {0}
-Rising before (id ∷ ids) = (before < id) × Rising id ids
-
 abbrev pub InOrder : Type 0
 InOrder = (c : Card) (items : List Item) → legalSets 0 (c .sets) ≡ true → Rising 0 (pendingIds c items)
 

@@ -10,7 +10,7 @@ use lib.Dec.{eqb}
 use lib.ListN.{length}
 use lib.Seq.{sets}
 use Rattle.octets.specs.Octets.{AllBytes, padded}
-use Rattle.octets.specs.Lists.{nth, keep, beside}
+use Rattle.octets.specs.Lists.{nth, keep, beside, Rising}
 use Rattle.record.specs.declared.Record.{Record}
 use Rattle.record.specs.Parts.{idOf}
 use Rattle.record.specs.Event.{bit}
@@ -31,7 +31,7 @@ use Rattle.steps.specs.Commanded.{noticesNo}
 use Rattle.steps.specs.Card.{names, trace}
 use Rattle.steps.specs.Rows.{carriedOut}
 use Rattle.steps.specs.Words.{cardOf, stepWords, Answered, Handed}
-use Rattle.steps.specs.Demands.{alone, own, lived, pendingIds, Rising, noneOf, configures, windowOf}
+use Rattle.steps.specs.Demands.{alone, own, lived, pendingIds, noneOf, configures, windowOf}
 use Rattle.steps.specs.Notices.{acceptedBy, readsListed, turnsNotices, Sends, Holds, Heard, Unserved}
 
 -- What holds a card and takes items.
