@@ -30,7 +30,7 @@ read-below bytes each at width = taken-below width (drop at bytes) (λ i. rw (ge
 
 -- ---- a part of a part
 
-within-take : (k w n : ℕ) (l : List ℕ) → k + w ≤ n → take w (drop k (take n l)) ≡ take w (drop k l)
+pub within-take : (k w n : ℕ) (l : List ℕ) → k + w ≤ n → take w (drop k (take n l)) ≡ take w (drop k l)
 within-take zero w n l h = take-take w n l (omega arith)
 within-take (suc k) w zero l h = absurd (omega arith)
 within-take (suc k) w (suc n) [] h = refl

@@ -5,7 +5,7 @@ use mathlib.Core.List.{List, [], _∷_, _++_, map, append-nil}
 use mathlib.Core.Logic.{inr}
 use Prim.Native.Nat.{ℕ, zero, suc, _+_, _*_, _-_, _^_, _≤_, _<_}
 use native.Mathlib.Omega.{arith}
-use borrow.Author.Tests.{leb-true, leb-false, le-leb, lt-leb, ltb-true, ltb-false, eqb-true, not-true}
+use borrow.Author.Tests.{leb-true, leb-false, le-leb, lt-leb, ltb-true, ltb-false, eqb-true, eqb-false, not-true}
 use lib.Dec.{leb, ltb, eqb}
 use lib.ListN.{length, getD, take, drop, replicate, length-append, length-take, length-drop, length-replicate, take-append-drop}
 use lib.Seq.{sets, length-sets, take-all, getD-take}
@@ -96,6 +96,11 @@ above-nth : (before : ℕ) (xs : List Attributes) (n : ℕ) → Ordered before x
 above-nth before [] n o h = absurd (omega arith)
 above-nth before (a ∷ xs) zero o h = o .0
 above-nth before (a ∷ xs) (suc n) o h = omega (arith, o .0, above-nth (a .id .0) xs n (o .2) (omega arith))
+
+below-nth : (before : ℕ) (xs : List Attributes) (n : ℕ) → Ordered before xs → n < length xs → getD (idsOf xs) n 0 ≤ numberMaximum
+below-nth before [] n o h = absurd (omega arith)
+below-nth before (a ∷ xs) zero o h = o .1
+below-nth before (a ∷ xs) (suc n) o h = below-nth (a .id .0) xs n (o .2) (omega arith)
 
 -- "from the last identifier plus one": what comes after it
 after-nth : (before : ℕ) (xs : List Attributes) (n : ℕ) → Ordered before xs → n < length xs → shown (getD (idsOf xs) n 0 + 1) xs ≡ drop (suc n) xs
@@ -231,6 +236,14 @@ module _ (all : List Attributes) (from : ℕ) (o : Ordered 0 all) where
     not-last e =
         let k : identifyEntries ≤ countIn answer = ltb-false (countIn answer) identifyEntries (left-false _ _ e) in
         omega (arith, count-is, length-take identifyEntries listed)
+
+    -- so there is a number left to ask from
+    pub last-small : isLast answer ≡ false → lastIn answer + 1 ≤ numberMaximum
+    last-small e =
+        let full = not-last e in
+        let small = below-nth 0 listed (identifyEntries - 1) (shown-ordered from 0 all o) (omega (arith, full)) in
+        let other : lastIn answer ≡ numberMaximum → ⊥ = eqb-false (lastIn answer) numberMaximum (right-false (ltb (countIn answer) identifyEntries) _ e) in
+        omega (arith, last-is full, small, other)
 
     -- the last answer leaves nothing out
     last-by : (b : Bool) → ltb (countIn answer) identifyEntries ≡ b → b || eqb (lastIn answer) numberMaximum ≡ true → one ≡ listed

@@ -80,7 +80,7 @@ keep-few : (p : Record → Bool) (rs : List Record) → length (keep p rs) ≤ l
 keep-few p [] = omega arith
 keep-few p (r ∷ rs) = few-by (p r) r (keep p rs) rs (keep-few p rs)
 
-id-fits : (a : Attributes) → legalAttributes a ≡ true → a .id .0 < 2 ^ 16
+pub id-fits : (a : Attributes) → legalAttributes a ≡ true → a .id .0 < 2 ^ 16
 id-fits a h =
     let s = and-left _ _ (and-left _ _ (and-left _ _ (and-left _ _ (and-left _ _ (and-left _ _ h))))) in
     let i = and-left _ _ (and-left _ _ (and-left _ _ (and-left _ _ s))) in

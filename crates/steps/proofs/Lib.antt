@@ -7,6 +7,7 @@ pub mod KeptLegal
 pub mod OwnHistory
 pub mod StoredFeatures
 pub mod AggregateLog
+pub mod Asking
 pub mod OnWords
 pub mod NewSets
 pub mod FirmPromises
