@@ -28,6 +28,7 @@ use Rattle.steps.specs.Holders.{Steps}
 use Rattle.steps.proofs.StepOnWords.{step-legal}
 use Rattle.steps.proofs.WordsStay.{words-stay}
 use Rattle.steps.proofs.HeldHistories.{never-lost, demanded}
+use Rattle.steps.proofs.HeldWords.{seen-within}
 use Rattle.steps.proofs.NewSets.{well, new-length, legal-set-up, granted-table}
 use Rattle.card_c.specs.Entries.{replySize}
 use Rattle.card_c.specs.HeldByC.{heldByC, SetUpLegalAtC, ListingNeverLost, DemandAtC}
@@ -49,6 +50,7 @@ c-steps =
       words-after = λ region l b after e u. ap tableIn (u .2 .table) ∙ step-in region (l .item) e (u .0) (u .1);
       said = λ region l b after u i. record { number = u .2 .status i; buffer = u .2 .answer i; said = u .2 .reply i };
       told = λ l a n. refl;
+      seen = λ region l b after u at n h. seen-within (b .buffer) _ _ refl (u .2 .part) at n h;
       left-out = λ l a n i.
           record {
             number = a .status;

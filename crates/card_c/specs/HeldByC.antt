@@ -55,6 +55,7 @@ heldByC =
             said = sets (l .reply) 0 (replyPart (a .dword) (length (a .bytes)) n (length (l .reply)));
           };
       status = λ b. b .number;
+      came = λ b. b .buffer;
       without = λ b. record { number = b .number; buffer = b .buffer; said = silenced (b .said) };
       notice = λ b. noticeIn (b .said);
       hears = λ l. leb replySize (length (l .reply));

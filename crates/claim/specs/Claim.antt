@@ -15,6 +15,7 @@ use Rattle.steps.specs.PastTheTable as past
 use Rattle.steps.specs.Firm as firm
 use Rattle.steps.specs.IdleBuilds as idle
 use Rattle.steps.specs.Demands as demands
+use Rattle.steps.specs.Asking as asking
 use Rattle.steps.specs.Notices as notices
 use Rattle.steps.specs.NoticeCases as told
 use Rattle.steps.specs.Holders as holders
@@ -100,6 +101,10 @@ pub record Claim : Type 0 where
   pub one-at-most : notices.OneAtMost
   -- each of its sentences on one item
   pub cases-hold : told.CasesHold
+  -- ==== 02, "Sixty-four sessions": Identify asked again, on the card
+  -- any items, where the asks among them follow each other so; and a host that asks so
+  pub asking-gives : asking.AskingGives
+  pub each-set-once : asking.EachSetOnce
   -- ==== on the lent words
   -- a run over words is the card's
   pub words-stay : demands.WordsStay
@@ -107,7 +112,8 @@ pub record Claim : Type 0 where
   pub words-trace : demands.WordsTrace
   pub words-notices : demands.WordsNotices
   pub words-swap : demands.WordsSwap
-  -- "hands back" of demand 2, demand 3, and 02's notices, of calls, one after another: with a reply, and with a part handed back
+  -- "hands back" of demand 2, demand 3, 02's notices and asking again, of calls, one after another: with a reply, and with a part
+  -- handed back
   pub words-demand : holders.WordsDemand
   pub part-demand : holders.PartDemand
   -- "words past it are neither read nor written"
@@ -119,7 +125,8 @@ pub record Claim : Type 0 where
   -- demand 1
   pub refused-item : at-c.RefusedItem
   pub refused-set-up : at-c.RefusedSetUp
-  -- "hands back" of demand 2, demand 3, and 02's notices, of calls on one region, one after another; no listing is lost to another set
+  -- "hands back" of demand 2, demand 3, 02's notices and asking again, of calls on one region, one after another; no listing is lost to
+  -- another set
   pub set-up-legal-at-c : held-by-c.SetUpLegalAtC
   pub demand-at-c : held-by-c.DemandAtC
   pub listing-never-lost : held-by-c.ListingNeverLost

@@ -9,6 +9,7 @@ use lib.Dec.{eqb}
 use lib.ListN.{length, length-map, length-append}
 use Rattle.octets.specs.Lists.{nth, beside}
 use Rattle.octets.proofs.JoinedTests.{both, together}
+use Rattle.record.specs.declared.Attributes.{Attributes}
 use Rattle.record.specs.declared.Record.{Record}
 use Rattle.record.specs.Parts.{idOf}
 use Rattle.replies.specs.Numbers.{success}
@@ -17,8 +18,8 @@ use Rattle.replies.specs.declared.Notice.the-variants.{Unsent}
 use Rattle.replies.specs.Answers.{Answer, toldOf}
 use Rattle.desk.specs.Desk.{Desk, waits}
 use Rattle.table.specs.Card.{Card}
-use Rattle.table.specs.Table.{recordsOf, legalSets, legalTable, listedMarks, newly}
-use Rattle.table.proofs.LegalTables.{legal-known, desk-there, sets-known}
+use Rattle.table.specs.Table.{recordsOf, legalSets, legalTable, listedMarks, newly, maxSets}
+use Rattle.table.proofs.LegalTables.{legal-known, desk-there, sets-known, length-records}
 use Rattle.table.proofs.Desks.{desk-legal}
 use Rattle.table.proofs.Written.{length-written}
 use Rattle.steps.specs.Items.{Item, command}
@@ -27,7 +28,10 @@ use Rattle.steps.specs.Rows.{carriedOut}
 use Rattle.steps.specs.Words.{cardOf, stepWords}
 use Rattle.steps.specs.Demands.{configures, noneConfigures, windowOf, noneMoves, runWords, traceWords, toldWords}
 use Rattle.steps.specs.Notices.{legalCard, acceptedBy, accepted, readsListed, lifts, noneLifts, listsSome, turnsNotices, noneTurns}
-use Rattle.steps.specs.Holders.{Holder, Called, History, last, items, lents, backs, shown, shownWith, naming, StaysLegal, OwnRecords, OwnAnswersBack, AggregateBack, NeverLost, SwapsBack, noneDone, noneMoved, ConfigBack, WindowBack, NoticesBack, allHear, noticesTold, acceptedCalls, liftsCall, noneLiftCalls, listsSomeCall, deskHeld, InTurnBack, SentBack, ElseBack, HeardBack, ServedBack, WokenBack, OneBack, Demanded, Steps}
+use Rattle.steps.specs.Holders.{Holder, Called, History, last, items, lents, backs, shown, shownWith, naming, StaysLegal, OwnRecords, OwnAnswersBack, AggregateBack, NeverLost, SwapsBack, noneDone, noneMoved, ConfigBack, WindowBack, NoticesBack, allHear, noticesTold, acceptedCalls, liftsCall, noneLiftCalls, listsSomeCall, deskHeld, InTurnBack, SentBack, ElseBack, HeardBack, ServedBack, WokenBack, OneBack, asksOf, GivesEachBack, Demanded, Steps}
+use Rattle.steps.specs.Asking.{askIn, attributes}
+use Rattle.pages.proofs.Asking.{Answers, gives-each}
+use Rattle.steps.proofs.Asking.{attributes-kept, sets-ordered, ask-answered, both-answered}
 use Rattle.steps.proofs.ItemShapes.{bool-cases}
 use Rattle.steps.proofs.KeptLegal.{step-keeps, step-back}
 use Rattle.steps.proofs.AtDesk.{notice-small}
@@ -408,6 +412,34 @@ module _ (H : Holder) (S : Steps H) where
   one-back h cs e u r l =
       rw (told-notices h cs e u r) (one-at-most (cardOf (H .words h)) (items H cs) (legal-held h e) (sym (none-lift h cs e u) ∙ l))
 
+  -- asking again: of each call, what is read off its bytes is its answer's, and no call changes a set's attributes
+  attributes-next : (h : H .Held) (c : Called H) (cs : List (Called H)) → legalTable (H .words h) ≡ true → History H h (c ∷ cs)
+      → attributes (cardOf (H .words (c .held))) ≡ attributes (cardOf (H .words h))
+  attributes-next h c cs e u = ap attributes (card-one h c e (u .0)) ∙ attributes-kept (cardOf (H .words h)) (H .item (c .lent))
+
+  ask-back : (h : H .Held) (c : Called H) → legalTable (H .words h) ≡ true → H .Call h (c .lent) (c .back) (c .held)
+      → Answers (attributes (cardOf (H .words h))) (askIn (H .item (c .lent)) (H .status (c .back)) (H .came (c .back)))
+  ask-back h c e u =
+      let a : stepWords (H .words h) (H .item (c .lent)) .answer ≡ answer (cardOf (H .words h)) (H .item (c .lent)) = answer-words (H .words h) (H .item (c .lent)) e in
+      let s : H .status (c .back) ≡ answer (cardOf (H .words h)) (H .item (c .lent)) .status = ap (H .status) (S .said h (c .lent) (c .back) (c .held) u) ∙ S .told (c .lent) _ _ ∙ ap (λ (x : Answer). x .status) a in
+      rw s
+      (ask-answered (cardOf (H .words h)) (H .item (c .lent)) (H .came (c .back)) (rw a at (S .seen h (c .lent) (c .back) (c .held) u)))
+
+  asks-back : (all : List Attributes) (h : H .Held) (cs : List (Called H)) → legalTable (H .words h) ≡ true → History H h cs
+      → attributes (cardOf (H .words h)) ≡ all → Answers all (asksOf H cs)
+  asks-back all h [] e u q = tt
+  asks-back all h (c ∷ cs) e u q =
+      both-answered all (askIn (H .item (c .lent)) (H .status (c .back)) (H .came (c .back))) (asksOf H cs)
+      (rw q at (ask-back h c e (u .0)))
+      (asks-back all (c .held) cs (legal-next h c cs e u) (u .1) (attributes-next h c cs e u ∙ q))
+
+  pub gives-each-back : GivesEachBack H
+  gives-each-back h cs from e u t =
+      let l = legal-known (H .words h) e in
+      let few : length (attributes (cardOf (H .words h))) ≤ maxSets = simp length-map (omega (arith, length-records (H .words h), l .few)) in
+      gives-each (attributes (cardOf (H .words h))) (sets-ordered 0 (recordsOf (H .words h)) (sets-known (H .words h) l)) from (asksOf H cs) few t
+      (asks-back (attributes (cardOf (H .words h))) h cs e u refl)
+
   pub demanded : Demanded H
   demanded =
       record {
@@ -427,4 +459,5 @@ module _ (H : Holder) (S : Steps H) where
         served-back = served-back;
         woken-back = woken-back;
         one-back = one-back;
+        gives-each-back = gives-each-back;
       }

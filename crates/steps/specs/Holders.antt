@@ -5,11 +5,11 @@ use mathlib.Core.Path.{_≡_}
 use mathlib.Core.Bool.{Bool, true, false, not, _&&_, _||_}
 use mathlib.Core.List.{List, [], _∷_, _++_, map}
 use mathlib.Core.Option.{some}
-use Prim.Native.Nat.{ℕ, _*_, _≤_}
+use Prim.Native.Nat.{ℕ, _+_, _*_, _≤_}
 use lib.Dec.{eqb}
 use lib.ListN.{length}
 use lib.Seq.{sets}
-use Rattle.octets.specs.Octets.{AllBytes, padded}
+use Rattle.octets.specs.Octets.{AllBytes, part, padded}
 use Rattle.octets.specs.Lists.{nth, keep, beside, Rising}
 use Rattle.record.specs.declared.Record.{Record}
 use Rattle.record.specs.Parts.{idOf}
@@ -23,6 +23,7 @@ use Rattle.desk.specs.Desk.{Desk, waits, identifierMaximum}
 use Rattle.table.specs.Table.{recordsOf, deskAt, legalTable, listedMarks, newly}
 use Rattle.pages.specs.Features.{handedBack}
 use Rattle.pages.specs.Aggregate.{aggregatePage}
+use Rattle.pages.specs.Asking.{Ask, asksFrom, GivesEach}
 use Rattle.commands.specs.declared.Kind.the-variants.{SetNotices, SetConfig, SetWindow, GetNotices, GetConfig, GetWindow, ReadAggregate}
 use Rattle.commands.specs.Commands.{dwordSize, commandIn, featureSet, enable, windowValue, offset, dwords, turnsOn}
 use Rattle.commands.specs.Shapes.{kindOf}
@@ -32,6 +33,7 @@ use Rattle.steps.specs.Card.{names, trace}
 use Rattle.steps.specs.Rows.{carriedOut}
 use Rattle.steps.specs.Words.{cardOf, stepWords, Answered, Handed}
 use Rattle.steps.specs.Demands.{alone, own, lived, pendingIds, noneOf, configures, windowOf}
+use Rattle.steps.specs.Asking.{askIn, attributes}
 use Rattle.steps.specs.Notices.{acceptedBy, readsListed, turnsNotices, Sends, Holds, Heard, Unserved}
 
 -- What holds a card and takes items.
@@ -47,6 +49,8 @@ pub record Holder : Type 1 where
   pub item : Lent → Item
   pub shows : Lent → Answer → Notice → Back
   pub status : Back → ℕ
+  -- the bytes in it that begin with the answer's data
+  pub came : Back → List ℕ
   -- what is handed back, the notice left out
   pub without : Back → Back
   -- the notice in it, where what was lent has room to tell of one
@@ -280,7 +284,20 @@ module _ (H : Holder) where
       → noneLiftCalls H since ≡ true
       → (length (noticesTold H since) ≤ 1) × (deskHeld H h .masked ≡ true → noticesTold H since ≡ [])
 
--- All of it, "hands back" of demand 2, demand 3, and 02's notices, under one name.
+-- ---- 02, "Sixty-four sessions", of a holder: Asking.antt has the same of the step, with the sentences.
+
+-- the asks among calls, whatever calls stand between them
+abbrev pub asksOf : (H : Holder) → List (Called H) → List Ask
+asksOf H [] = []
+asksOf H (c ∷ cs) = askIn (H .item (c .lent)) (H .status (c .back)) (H .came (c .back)) ++ asksOf H cs
+
+module _ (H : Holder) where
+  abbrev pub GivesEachBack : Type 0
+  GivesEachBack =
+      (h : H .Held) (cs : List (Called H)) (from : ℕ) → legalTable (H .words h) ≡ true → History H h cs
+      → asksFrom from (asksOf H cs) ≡ true → GivesEach (attributes (cardOf (H .words h))) from (asksOf H cs)
+
+-- All of it, "hands back" of demand 2, demand 3, 02's notices and asking again, under one name.
 pub record Demanded (H : Holder) : Type 0 where
   pub stays-legal : StaysLegal H
   pub own-records : OwnRecords H
@@ -298,6 +315,7 @@ pub record Demanded (H : Holder) : Type 0 where
   pub served-back : ServedBack H
   pub woken-back : WokenBack H
   pub one-back : OneBack H
+  pub gives-each-back : GivesEachBack H
 
 -- What is asked of a holder for that: each call goes by the step on the words that it holds.
 pub record Steps (H : Holder) : Type 0 where
@@ -311,6 +329,10 @@ pub record Steps (H : Holder) : Type 0 where
       (h : H .Held) (l : H .Lent) (b : H .Back) (g : H .Held) → H .Call h l b g
       → b ≡ H .shows l (stepWords (H .words h) (H .item l) .answer) (stepWords (H .words h) (H .item l) .notice)
   pub told : (l : H .Lent) (a : Answer) (n : Notice) → H .status (H .shows l a n) ≡ a .status
+  pub seen :
+      (h : H .Held) (l : H .Lent) (b : H .Back) (g : H .Held) → H .Call h l b g
+      → (at n : ℕ) → at + n ≤ length (stepWords (H .words h) (H .item l) .answer .bytes)
+      → part (H .came b) at n ≡ part (stepWords (H .words h) (H .item l) .answer .bytes) at n
   pub left-out : (l : H .Lent) (a : Answer) (n : Notice) → H .without (H .shows l a n) ≡ H .shows l a Unsent
   pub heard : (l : H .Lent) (a : Answer) (n : Notice) → H .hears l ≡ true → toNo n ≤ identifierMaximum → H .notice (H .shows l a n) ≡ n
   pub put-over : (h : H .Held) (ws vs : List ℕ) → length ws ≡ length vs → H .with-words (H .with-words h ws) vs ≡ H .with-words h vs
@@ -339,6 +361,7 @@ heldWords =
       item = λ l. l .item;
       shows = λ l a n. record { reply = replying (a .status) (a .dword) (length (a .bytes)) n; buffer = sets (l .before) 0 (a .bytes) };
       status = λ b. b .reply .status;
+      came = λ b. b .buffer;
       without = λ b. record { reply = besideOf (b .reply) Unsent; buffer = b .buffer };
       notice = λ b. b .reply .notice;
       hears = λ l. true;
@@ -376,6 +399,7 @@ heldPart =
       item = λ l. l .item;
       shows = λ l a n. backPart (a .status) (a .dword) (toldNo n) (toNo n) (a .bytes);
       status = λ b. b .status;
+      came = λ b. b .part;
       without = λ b. backPart (b .status) (b .dword) 0 0 (b .part);
       notice = λ b. noticeOf (b .told) (b .to);
       hears = λ l. true;
