@@ -2,59 +2,55 @@
 use mathlib.Core.Path.{_≡_, refl, sym, ap, _∙_}
 use mathlib.Core.Bool.{Bool, true, false, _&&_}
 use mathlib.Core.List.{List, [], _∷_, map}
-use Prim.Native.Nat.{ℕ, _+_, _-_, _*_, _^_, _≤_, _<_}
+use Prim.Native.Nat.{ℕ, _+_, _^_, _≤_, _<_}
 use native.Mathlib.Omega.{arith}
-use native.Mathlib.Nat.{sub-zero}
 use lib.Dec.{ltb}
 use borrow.Author.Tests.{ltb-true, ltb-false}
-use lib.ListN.{length, take, replicate, length-map}
-use lib.Seq.{sets}
+use lib.Count.{ones}
+use lib.ListN.{length, length-map}
+use Rattle.octets.specs.Pages.{puts}
 use Rattle.octets.proofs.JoinedTests.{both}
-use Rattle.octets.proofs.Runs.{part-same}
 use Rattle.record.specs.declared.Attributes.{Attributes}
 use Rattle.record.specs.Parts.{idOf}
 use Rattle.table.specs.Layout.{recordOf}
 use Rattle.table.specs.Table.{count, row, recordsOf, Legal, listedMarks, listedWord, maxSets}
 use Rattle.table.proofs.LegalTables.{length-records}
 use Rattle.table.proofs.Turns.{later, later-none, later-more, later-all}
-use Rattle.pages.specs.Aggregate.{listedBy, aggregatePage}
+use Rattle.pages.specs.Aggregate.{listedBy, firstListed, entriesFrom, countPage, aggregatePage}
 use Rattle.pages.specs.Identify.{identifySize, entrySize, firstEntry, Shows}
-use Rattle.pages.proofs.Listed.{word-below, one-word}
+use Rattle.pages.proofs.Listed.{word-below, one-word, page-is}
 use Rattle.pages.proofs.Entries.{Showing, show-start, show-room, show-turn, show-end, show-full}
 use Rattle.steps.specs.Commanded.{listedIds}
 use Rattle.by_value.specs.Views.{attributesOf, ShowsAll}
 
 -- ---- 0Bh
 
-module _ (ws : List ℕ) (l : Legal ws) (n : ℕ) (ids : List ℕ) (word : ℕ) (en : n ≡ count ws)
-    (ei : ids ≡ sets (replicate maxSets 0) 0 (map idOf (recordsOf ws))) (ew : word ≡ listedWord (recordsOf ws)) where
-  many : length (map idOf (recordsOf ws)) ≡ n
-  many = simp length-map (length-records ws ∙ sym en)
+abbrev pub idsOf : List ℕ → List ℕ
+idsOf ws = map idOf (recordsOf ws)
 
-  -- the identifiers that are lent
-  pub ids-are : take (n - 0) ids ≡ map idOf (recordsOf ws)
-  ids-are =
-      let r : 0 + n ≤ length (replicate {A = ℕ} maxSets 0) = omega (arith, l .few) in
-      rw (ei, sub-zero) (part-same (map idOf (recordsOf ws)) (replicate maxSets 0) 0 n many r)
+pub ids-many : (ws : List ℕ) → length (idsOf ws) ≡ count ws
+ids-many ws = simp length-map (length-records ws)
 
-  -- what the page asks of them
-  pub record Lent : Type 0 where
-    pub few : length (take (n - 0) ids) ≤ maxSets
-    pub below : word < 2 ^ length (take (n - 0) ids)
+module _ (ws : List ℕ) (l : Legal ws) where
+  pub ids-few : length (idsOf ws) ≤ maxSets
+  ids-few = omega (arith, l .few, ids-many ws)
 
-  marks-many : length (listedMarks (recordsOf ws)) ≡ length (take (n - 0) ids)
-  marks-many = rw ids-are (simp length-map)
+  module _ (word : ℕ) (ew : word ≡ listedWord (recordsOf ws)) where
+    marks-many : length (listedMarks (recordsOf ws)) ≡ length (idsOf ws)
+    marks-many = simp length-map
 
-  pub lent : Lent
-  lent =
-      record {
-        few = rw (ids-are, many) (omega (arith, l .few));
-        below = rw (ew, ← marks-many) (word-below (listedMarks (recordsOf ws)));
-      }
+    -- no mark past the last set
+    pub word-small : word < 2 ^ length (idsOf ws)
+    word-small = rw (ew, ← marks-many) (word-below (listedMarks (recordsOf ws)))
 
-  pub aggregate-is : (p : List ℕ) → p ≡ aggregatePage (listedBy word (take (n - 0) ids)) → p ≡ aggregatePage (listedIds (recordsOf ws))
-  aggregate-is p h =
-      h ∙ ap aggregatePage (rw (ids-are, ew) (one-word (map idOf (recordsOf ws)) (listedMarks (recordsOf ws)) (simp length-map)))
+    -- what the word lists
+    pub word-lists : listedBy word (idsOf ws) ≡ listedIds (recordsOf ws)
+    word-lists = rw ew (one-word (idsOf ws) (listedMarks (recordsOf ws)) (simp length-map))
+
+    pub aggregate-is : (p q : List ℕ) → p ≡ countPage (ones word) → q ≡ puts p (entriesFrom firstListed (listedIds (recordsOf ws))) → q ≡ aggregatePage (listedIds (recordsOf ws))
+    aggregate-is p q ep eq =
+        page-is (idsOf ws) p q word (ones word) word-small refl ep (eq ∙ ap (λ (ids : List ℕ). puts p (entriesFrom firstListed ids)) (sym word-lists))
+        ∙ ap aggregatePage word-lists
 
 -- ---- Identify
 

@@ -2,11 +2,17 @@
 use mathlib.Core.Path.{_≡_}
 use mathlib.Core.List.{List, map}
 use Prim.Native.Nat.{ℕ, _+_, _*_}
-use lib.ListN.{length}
+use lib.ListN.{length, getD}
 use Rattle.octets.specs.Pages.{puts}
 use Rattle.record.specs.declared.Attributes.{Attributes}
 use Rattle.record.specs.declared.Record.{Record}
+use Rattle.record.specs.Parts.{idOf}
+use Rattle.table.specs.Table.{recordsOf}
 use Rattle.pages.specs.Identify.{entrySize, firstEntry, inOneAnswer, entriesAt}
+
+-- the identifier of the set in a slot
+abbrev pub idIn : List ℕ → ℕ → ℕ
+idIn ws slot = getD (map idOf (recordsOf ws)) slot 0
 
 -- the attributes of all sets
 abbrev pub attributesOf : List Record → List Attributes

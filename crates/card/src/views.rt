@@ -1,16 +1,23 @@
 // The pages of the whole card: 0Bh and Identify, from the table.
 ghost use mathlib.Core.Path.{_≡_};
-ghost use Prim.Native.Nat.{_+_, _*_, _≤_};
+ghost use Prim.Native.Nat.{_+_, _<_, _≤_};
 ghost use lib.ListN.{length};
 ghost use lib.Seq.{sets};
+ghost use Rattle.octets.specs.Octets.{bytesOf};
+ghost use Rattle.octets.specs.Pages.{puts};
 ghost use Rattle.table.specs.Layout.{recordOf};
-ghost use Rattle.table.specs.Table.{rowStart, row, recordsOf, Legal};
-ghost use Rattle.pages.specs.Aggregate.{aggregatePage};
+ghost use Rattle.table.specs.Table.{count, rowStart, row, recordsOf, listedWord, Legal};
+ghost use Rattle.pages.specs.Aggregate.{lowestOne, aggregateSize, firstListed, listedSize, entriesFrom, aggregatePage};
 ghost use Rattle.pages.specs.Identify.{entrySize, identifySize, identifyPage, Shows};
 ghost use Rattle.steps.specs.Commanded.{listedIds};
-ghost use Rattle.by_value.specs.Views.{attributesOf, ShowsAll};
+ghost use Rattle.by_value.specs.Views.{idIn, attributesOf, ShowsAll};
 use pages::aggregate::AGGREGATE_SIZE;
-use pages::aggregate::aggregate_page;
+use pages::aggregate::FIRST_LISTED;
+use pages::aggregate::LISTED_SIZE;
+use pages::aggregate::clear_lowest;
+use pages::aggregate::count_page;
+use pages::aggregate::lowest;
+use pages::aggregate::put_listed;
 use pages::identify::FIRST_ENTRY;
 use pages::identify::IDENTIFY_SIZE;
 use pages::identify::put_count;
@@ -18,18 +25,42 @@ use pages::identify::show;
 use record::SetId;
 use record::Slot;
 use table::count_of;
-use table::identifiers;
+use table::id_at;
 use table::listed_word;
 use table::load;
+
+// The entry of the word's lowest one: "the next entry its lowest one".
+fn put_next(page: &mut [u8], to: usize, table: &[u64], left: u64)
+    requires { ⌜ Legal (now table) × (lowestOne left < count (now table)) × (to + listedSize ≤ length (now page)) ⌝ }
+    ensures { λ _. ⌜ now (page .exit) ≡ sets (now (page .entry)) to (bytesOf listedSize (idIn (now (table .entry)) (lowestOne left))) ⌝ }
+{
+    let slot = lowest(left);
+    let at = slot.0;
+    put_listed(page, to, id_at(table, at));
+}
+
+// An entry for each one of the word of listed marks.
+fn list_all(page: &mut [u8], table: &[u64], word: u64)
+    requires { ⌜ Legal (now table) × (word ≡ listedWord (recordsOf (now table))) × (aggregateSize ≤ length (now page)) ⌝ }
+    ensures { λ _. ⌜ now (page .exit) ≡ puts (now (page .entry)) (entriesFrom firstListed (listedIds (recordsOf (now (table .entry))))) ⌝ }
+{
+    let mut left = word;
+    let mut to = FIRST_LISTED;
+    while 0 < left {
+        put_next(page, to, table, left);
+        left = clear_lowest(left);
+        to += LISTED_SIZE;
+    }
+}
 
 pub(crate) fn aggregate_of(table: &[u64]) -> [u8; AGGREGATE_SIZE]
     requires { ⌜ Legal (now table) ⌝ }
     ensures { λ p. ⌜ p ≡ aggregatePage (listedIds (recordsOf (now (table .entry)))) ⌝ }
 {
-    let n = count_of(table);
-    let ids = identifiers(table);
     let word = listed_word(table);
-    aggregate_page(&ids[0..n], word)
+    let mut p = count_page(word);
+    list_all(&mut p, table, word);
+    p
 }
 
 // The set of one slot, if it is to be shown; the answer is the next place.

@@ -1,17 +1,24 @@
 // The pages of the whole card, from the region: 0Bh and Identify.
 ghost use mathlib.Core.Path.{_≡_};
-ghost use Prim.Native.Nat.{_+_, _*_, _/_, _≤_};
+ghost use Prim.Native.Nat.{_+_, _/_, _<_, _≤_};
 ghost use lib.ListN.{length};
 ghost use lib.Seq.{sets};
-ghost use Rattle.table.specs.Table.{rowStart, recordsOf, Legal};
-ghost use Rattle.pages.specs.Aggregate.{aggregatePage};
+ghost use Rattle.octets.specs.Octets.{bytesOf};
+ghost use Rattle.octets.specs.Pages.{puts};
+ghost use Rattle.table.specs.Table.{count, rowStart, recordsOf, listedWord, Legal};
+ghost use Rattle.pages.specs.Aggregate.{lowestOne, aggregateSize, firstListed, listedSize, entriesFrom, aggregatePage};
 ghost use Rattle.pages.specs.Identify.{entrySize, identifySize, identifyPage, Shows};
 ghost use Rattle.region.specs.Region.{tableIn, recordAt};
 ghost use Rattle.steps.specs.Commanded.{listedIds};
 ghost use Rattle.octets.specs.Words.{wordSize};
-ghost use Rattle.by_value.specs.Views.{attributesOf, ShowsAll};
+ghost use Rattle.by_value.specs.Views.{idIn, attributesOf, ShowsAll};
 use pages::aggregate::AGGREGATE_SIZE;
-use pages::aggregate::aggregate_page;
+use pages::aggregate::FIRST_LISTED;
+use pages::aggregate::LISTED_SIZE;
+use pages::aggregate::clear_lowest;
+use pages::aggregate::count_page;
+use pages::aggregate::lowest;
+use pages::aggregate::put_listed;
 use pages::identify::FIRST_ENTRY;
 use pages::identify::IDENTIFY_SIZE;
 use pages::identify::put_count;
@@ -19,18 +26,42 @@ use pages::identify::show;
 use record::SetId;
 use record::Slot;
 use region::count_of;
-use region::identifiers;
+use region::id_at;
 use region::listed_word;
 use region::load;
+
+// The entry of the word's lowest one: "the next entry its lowest one".
+fn put_next(page: &mut [u8], to: usize, region: &[u8], left: u64)
+    requires { ⌜ Legal (tableIn (now region)) × (lowestOne left < count (tableIn (now region))) × (to + listedSize ≤ length (now page)) ⌝ }
+    ensures { λ _. ⌜ now (page .exit) ≡ sets (now (page .entry)) to (bytesOf listedSize (idIn (tableIn (now (region .entry))) (lowestOne left))) ⌝ }
+{
+    let slot = lowest(left);
+    let at = slot.0;
+    put_listed(page, to, id_at(region, at));
+}
+
+// An entry for each one of the word of listed marks.
+fn list_all(page: &mut [u8], region: &[u8], word: u64)
+    requires { ⌜ Legal (tableIn (now region)) × (word ≡ listedWord (recordsOf (tableIn (now region)))) × (aggregateSize ≤ length (now page)) ⌝ }
+    ensures { λ _. ⌜ now (page .exit) ≡ puts (now (page .entry)) (entriesFrom firstListed (listedIds (recordsOf (tableIn (now (region .entry)))))) ⌝ }
+{
+    let mut left = word;
+    let mut to = FIRST_LISTED;
+    while 0 < left {
+        put_next(page, to, region, left);
+        left = clear_lowest(left);
+        to += LISTED_SIZE;
+    }
+}
 
 pub(crate) fn aggregate_of(region: &[u8]) -> [u8; AGGREGATE_SIZE]
     requires { ⌜ Legal (tableIn (now region)) ⌝ }
     ensures { λ p. ⌜ p ≡ aggregatePage (listedIds (recordsOf (tableIn (now (region .entry))))) ⌝ }
 {
-    let n = count_of(region);
-    let ids = identifiers(region);
     let word = listed_word(region);
-    aggregate_page(&ids[0..n], word)
+    let mut p = count_page(word);
+    list_all(&mut p, region, word);
+    p
 }
 
 // The set of one slot, if it is to be shown; the answer is the next place.

@@ -1,5 +1,5 @@
 // Takes calls of the two functions over references from standard input, and writes what each answered and left (`streams` says
-// how): set-up from a lent list of three sets or of 31, whose bodies are the data; and reads, writes and excursions of one lent
+// how): set-up from a lent list of three sets or of 64, whose bodies are the data; and reads, writes and excursions of one lent
 // record, whose row is the table. It has no case of its own: rust/ makes the calls, and holds what is written to the model. Set-up
 // from another number of bodies is answered with FFFFh.
 use by_reference::callers::charge_lent;
@@ -24,11 +24,11 @@ use table::layout::ROW;
 use table::layout::record_of;
 use table::layout::words_of;
 
-const WORDS: usize = 1024;
+const WORDS: usize = 2048;
 
-const BYTES: usize = 8192;
+const BYTES: usize = 16384;
 
-// The bodies of 31 sets, and of three.
+// The bodies of as many sets as a card may have, and of three.
 const DATA: usize = MAX_SETS * BODY;
 
 const THREE: usize = 3 * BODY;

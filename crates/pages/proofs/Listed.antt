@@ -10,15 +10,15 @@ use lib.Bits.{bitAnd, and-step, and-self, and-le-r}
 use lib.Count.{ones, ones-step, trailingZeros, under}
 use lib.Dec.{eqb}
 use lib.ListN.{length, getD, replicate}
-use lib.Seq.{sets}
+use lib.Seq.{sets, length-sets}
 use borrow.Author.Tests.{le-leb}
 use Rattle.octets.specs.Octets.{bytesOf}
-use Rattle.octets.specs.Pages.{puts, tidy, Fit, readings, values}
+use Rattle.octets.specs.Pages.{puts, place, tidy, Fit, readings, values}
 use Rattle.octets.proofs.Halves.{odd-or-even}
-use Rattle.octets.proofs.Pages.{placed, read-back}
+use Rattle.octets.proofs.Pages.{read-back}
 use Rattle.record.specs.Event.{bit}
 use Rattle.table.specs.Table.{maxSets, wordOf}
-use Rattle.pages.specs.Aggregate.{listedIf, picked, listedBy, OneWord, CountIsOnes, NextIsLowest, aggregateSize, listedSize, entriesFrom, listFields, aggregatePage}
+use Rattle.pages.specs.Aggregate.{listedIf, picked, listedBy, OneWord, CountIsOnes, NextIsLowest, lowestOne, withoutLowest, aggregateSize, firstListed, listedSize, countPage, entriesFrom, listFields, aggregatePage}
 
 -- a word without its lowest one
 unfoldable cleared : ℕ → ℕ
@@ -129,30 +129,16 @@ one-word (id ∷ ids) (m ∷ marks) e =
     let b : (wordOf marks * 2 + bit m) / 2 ≡ wordOf marks = omega (arith, bit-is m .0) in
     rw (a, b, bit-is m .1, one-word ids marks (omega arith))
 
--- ---- an entry: two bytes of a number are those of its lowest 16 bits
-
-rests : (a b q : ℕ) → b ≡ q * 256 + a → a % 256 ≡ b % 256
-rests a b q e = omega arith
-
-pub two-bytes : (n x : ℕ) → n ≡ x % 2 ^ 16 → bytesOf listedSize n ≡ bytesOf listedSize x
-two-bytes n x e =
-    let q : ℕ = x / 2 ^ 16 in
-    let whole : x ≡ q * 2 ^ 16 + n = omega arith in
-    let low : n % 256 ≡ x % 256 = omega arith in
-    let part : x / 256 ≡ q * 256 + n / 256 = omega arith in
-    let high : n / 256 % 256 ≡ x / 256 % 256 = rests (n / 256) (x / 256) q part in
-    rw (low, high)
-
 -- ---- a turn of the loop that lists, over plain variables
 
-pub record Entered (ids page : List ℕ) (left next to : ℕ) : Type 0 where
+record Entered (ids page : List ℕ) (left next to : ℕ) : Type 0 where
   pub within : trailingZeros 64 left < length ids
   pub still : next < 2 ^ length ids
   pub less : next < left
   pub fewer : 1 + length (listedBy next ids) ≡ length (listedBy left ids)
   pub puts-on : puts (sets page to (bytesOf 2 (getD ids (trailingZeros 64 left) 0))) (entriesFrom (to + 2) (listedBy next ids)) ≡ puts page (entriesFrom to (listedBy left ids))
 
-pub entry-turn : (ids page : List ℕ) (left next to : ℕ) → 0 < left → left < 2 ^ length ids → length ids ≤ maxSets → next ≡ bitAnd left (left - 1)
+entry-turn : (ids page : List ℕ) (left next to : ℕ) → 0 < left → left < 2 ^ length ids → length ids ≤ maxSets → next ≡ bitAnd left (left - 1)
     → Entered ids page left next to
 entry-turn ids page left next to p h few e =
     let r = lowest ids 64 left p h (omega arith) in
@@ -166,19 +152,49 @@ pub record Left (ids page₀ : List ℕ) (word : ℕ) (page : List ℕ) (left to
   pub room : to + 2 * length (listedBy left ids) ≤ length page₀
   pub same : puts page (entriesFrom to (listedBy left ids)) ≡ puts page₀ (entriesFrom 8 (listedBy word ids))
 
-pub entry-end : (ids page : List ℕ) (left to : ℕ) → left ≤ 0 → puts page (entriesFrom to (listedBy left ids)) ≡ page
-entry-end ids page left to h = let e : left ≡ 0 = omega arith in rw (e, listed-none ids)
+module _ (ids page₀ : List ℕ) (word : ℕ) (few : length ids ≤ maxSets) where
+  pub left-start : word < 2 ^ length ids → aggregateSize ≤ length page₀ → Left ids page₀ word page₀ word firstListed
+  left-start h room = record { below = h; long = refl; room = omega (arith, listed-few ids word); same = refl }
+
+  module _ (page : List ℕ) (left to : ℕ) (p : 0 < left) (s : Left ids page₀ word page left to) where
+    turn : Entered ids page left (withoutLowest left) to
+    turn = entry-turn ids page left (withoutLowest left) to p (s .below) few refl
+
+    pub left-within : lowestOne left < length ids
+    left-within = turn .within
+
+    pub left-room : to + listedSize ≤ length page
+    left-room = omega (arith, s .room, s .long, turn .fewer)
+
+    pub left-less : (next : ℕ) → next ≡ withoutLowest left → next < left
+    left-less next e = rw e (turn .less)
+
+    pub left-turn : (after : List ℕ) (next : ℕ) → next ≡ withoutLowest left → after ≡ sets page to (bytesOf listedSize (getD ids (lowestOne left) 0))
+        → Left ids page₀ word after next (to + listedSize)
+    left-turn after next en ea =
+        rw (en, ea)
+        (record {
+          below = turn .still;
+          long = length-sets page to (bytesOf listedSize (getD ids (lowestOne left) 0)) ∙ s .long;
+          room = omega (arith, s .room, turn .fewer);
+          same = turn .puts-on ∙ s .same;
+        })
+
+  -- no mark is left: all are listed
+  pub left-end : (page : List ℕ) (left to : ℕ) → left ≤ 0 → Left ids page₀ word page left to → page ≡ puts page₀ (entriesFrom firstListed (listedBy word ids))
+  left-end page left to h s = let e : left ≡ 0 = omega arith in sym (rw (e, listed-none ids)) ∙ s .same
 
 -- ---- the page: the number, then the entries
 
-put-list : (z p q l : List ℕ) (n : ℕ) → n ≡ length l → p ≡ sets z 0 (bytesOf 8 n) → q ≡ puts p (entriesFrom 8 l) → q ≡ puts z (listFields l)
-put-list z p q l n en ep eq = eq ∙ ap (λ (x : List ℕ). puts x (entriesFrom 8 l)) (ep ∙ ap (λ (m : ℕ). sets z 0 (bytesOf 8 m)) en)
+pub counted : (p : List ℕ) (n w : ℕ) → p ≡ sets (replicate aggregateSize 0) 0 (bytesOf 8 n) → n ≡ ones w → p ≡ countPage (ones w)
+unfolding place
+counted p n w ep en = ep ∙ ap countPage en
 
-pub page-is : (ids p q : List ℕ) (w n : ℕ) → w < 2 ^ length ids → n ≡ ones w → p ≡ sets (replicate aggregateSize 0) 0 (bytesOf 8 n)
-    → q ≡ puts p (entriesFrom 8 (listedBy w ids)) → q ≡ aggregatePage (listedBy w ids)
-unfolding aggregatePage
+pub page-is : (ids p q : List ℕ) (w n : ℕ) → w < 2 ^ length ids → n ≡ ones w → p ≡ countPage n
+    → q ≡ puts p (entriesFrom firstListed (listedBy w ids)) → q ≡ aggregatePage (listedBy w ids)
+unfolding aggregatePage place
 page-is ids p q w n h en ep eq =
-    put-list (replicate aggregateSize 0) p q (listedBy w ids) n (en ∙ ones-listed ids w h) ep eq ∙ placed aggregateSize (listFields (listedBy w ids))
+    eq ∙ ap (λ (x : List ℕ). puts x (entriesFrom firstListed (listedBy w ids))) (ep ∙ ap countPage (en ∙ ones-listed ids w h))
 
 -- ---- the page read back
 

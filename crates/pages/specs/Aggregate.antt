@@ -80,6 +80,10 @@ entriesFrom at (id ∷ ids) = field at listedSize id ∷ entriesFrom (at + liste
 abbrev pub listFields : List ℕ → List Field
 listFields ids = fieldsAt (listCount ∷ []) (length ids ∷ []) ++ entriesFrom firstListed ids
 
+-- the page with its count alone, before entries are put
+abbrev pub countPage : ℕ → List ℕ
+countPage n = place aggregateSize (fieldsAt (listCount ∷ []) (n ∷ []))
+
 -- "then zeros"
 unfoldable pub aggregatePage : List ℕ → List ℕ
 aggregatePage ids = place aggregateSize (listFields ids)

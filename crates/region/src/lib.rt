@@ -3,14 +3,13 @@
 ghost use mathlib.Core.Path.{_≡_};
 ghost use mathlib.Core.Bool.{false};
 ghost use Prim.Native.Nat.{_+_, _*_, _/_, _<_, _≤_};
-ghost use mathlib.Core.List.{map};
-ghost use lib.ListN.{length, getD, replicate};
+ghost use lib.ListN.{length, getD};
 ghost use lib.Seq.{sets};
 ghost use Rattle.octets.specs.Words.{wordSize};
 ghost use Rattle.record.specs.Parts.{idOf};
 ghost use Rattle.desk.specs.Desk.{queued, turned, lifted, settle, requestsMaximum};
 ghost use Rattle.table.specs.Card.{headerWords, deskStart};
-ghost use Rattle.table.specs.Table.{deskPart, deskAt, withDesk, DeskThere, count, rowStart, row, rows, sized, legalRows, legalTable, Legal, recordsOf, findIn, enterIn, listedWord, maxSets};
+ghost use Rattle.table.specs.Table.{deskPart, deskAt, withDesk, DeskThere, count, rowStart, row, rows, sized, legalRows, legalTable, Legal, recordsOf, findIn, enterIn, listedWord};
 ghost use Rattle.region.specs.Region.{tableIn, tableOut, recordAt, withRecord, LegalAt, Moved, Silent, TellsAt};
 use desk::DESK;
 use octets::casts::to_size;
@@ -24,7 +23,6 @@ use record::Slot;
 use replies::Notice;
 use table::Entry;
 use table::Found;
-use table::MAX_SETS;
 use table::layout::DESK_START;
 use table::layout::HEADER;
 use table::layout::LAYOUT;
@@ -231,7 +229,7 @@ pub fn legal(bytes: &[u8]) -> bool
 }
 
 // The identifier's word of a slot.
-fn id_at(bytes: &[u8], slot: usize) -> u64
+pub fn id_at(bytes: &[u8], slot: usize) -> u64
     requires { ⌜ rowStart (slot + 1) ≤ length (now bytes) / wordSize ⌝ }
     ensures { λ r. ⌜ r ≡ getD (tableIn (now (bytes .entry))) (rowStart slot) 0 ⌝ }
 {
@@ -280,19 +278,4 @@ pub fn listed_word(bytes: &[u8]) -> u64
         word = word * 2 + word_of(bytes, HEADER + i * ROW + LISTED);
     }
     word
-}
-
-// The identifiers of all sets by slot, then zeros.
-pub fn identifiers(bytes: &[u8]) -> [u64; MAX_SETS]
-    requires { ⌜ Legal (tableIn (now bytes)) ⌝ }
-    ensures { λ r. ⌜ r ≡ sets (replicate maxSets 0) 0 (map idOf (recordsOf (tableIn (now (bytes .entry))))) ⌝ }
-{
-    let n = count_of(bytes);
-    let mut ids = [0u64; MAX_SETS];
-    let mut i = 0;
-    while i < n {
-        ids[i] = id_at(bytes, i);
-        i += 1;
-    }
-    ids
 }

@@ -2,13 +2,13 @@
 use mathlib.Core.Path.{_≡_, refl, sym, ap, _∙_}
 use mathlib.Core.Bool.{Bool, true, false}
 use mathlib.Core.List.{List, [], _∷_, map}
-use Prim.Native.Nat.{ℕ, suc, _+_, _-_, _*_, _^_, _≤_, _<_}
+use Prim.Native.Nat.{ℕ, zero, suc, _+_, _-_, _*_, _^_, _≤_, _<_}
 use native.Mathlib.Omega.{arith}
 use native.Mathlib.Numerals.{add-one}
-use native.Mathlib.Nat.{add-zero, sub-zero, pow-suc, pow-le-pow-right, lt-of-lt-of-le}
+use native.Mathlib.Nat.{add-zero, zero-add, sub-zero, pow-suc, pow-le-pow-right, lt-of-lt-of-le}
 use lib.Dec.{lit<, lit≤}
-use lib.ListN.{getD, set, drop}
-use lib.Seq.{sets, getD-take, getD-drop}
+use lib.ListN.{getD, drop}
+use lib.Seq.{getD-take, getD-drop}
 use borrow.Author.Tests.{eq-eqb, ne-eqb}
 use Rattle.record.specs.declared.Record.{Record}
 use Rattle.record.specs.Event.{bit}
@@ -134,8 +134,14 @@ pub gathered-fits : (ws : List ℕ) → Legal ws → (i word k : ℕ) → k ≤ 
 gathered-fits ws l i word k h g =
     let m : count ws - i ≤ maxSets - k = omega (arith, l .few) in lt-of-lt-of-le (g .small) (pow-le-pow-right (lit< tt) m)
 
--- ---- the identifiers, from slot i on
+-- ---- the identifiers
 
-pub ids-more : (ws : List ℕ) → Legal ws → (ids : List ℕ) (n i : ℕ) → n ≡ count ws → i < n
-    → sets (set ids i (getD ws (rowStart i) 0)) (i + 1) (map idOf (later ws n (i + 1))) ≡ sets ids i (map idOf (later ws n i))
-ids-more ws l ids n i en h = rw (later-more ws n i h, id-at ws l i (omega arith), add-one)
+ids-from : (ws : List ℕ) (slot n i : ℕ) → i < n → getD (map idOf (map recordOf (rowsFrom ws slot n))) i 0 ≡ idOf (recordOf (row ws (slot + i)))
+ids-from ws slot zero i h = absurd (omega arith)
+ids-from ws slot (suc n) zero h = rw add-zero
+ids-from ws slot (suc n) (suc i) h = let e : suc slot + i ≡ slot + suc i = omega arith in rw (← e) (ids-from ws (suc slot) n i (omega arith))
+
+-- the word of a slot is the identifier of its set
+pub ids-at : (ws : List ℕ) → Legal ws → (i : ℕ) → i < count ws → getD ws (rowStart i) 0 ≡ getD (map idOf (recordsOf ws)) i 0
+unfolding recordsOf
+ids-at ws l i h = id-at ws l i h ∙ ap (λ (k : ℕ). idOf (recordOf (row ws k))) (sym (zero-add i)) ∙ sym (ids-from ws 0 (count ws) i h)

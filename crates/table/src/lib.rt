@@ -5,15 +5,13 @@ pub mod legal_words;
 
 ghost use mathlib.Core.Path.{_≡_};
 ghost use mathlib.Core.Bool.{false};
-ghost use mathlib.Core.List.{map};
 ghost use Prim.Native.Nat.{_+_, _*_, _<_, _≤_};
-ghost use lib.ListN.{length, replicate};
+ghost use lib.ListN.{length, getD};
 ghost use lib.Seq.{sets};
 ghost use Rattle.table.specs.Layout.{wordsOf, recordOf};
-ghost use Rattle.record.specs.Parts.{idOf};
 ghost use Rattle.desk.specs.Desk.{queued, turned, lifted, settle, requestsMaximum};
 ghost use Rattle.table.specs.Card.{headerWords, deskStart};
-ghost use Rattle.table.specs.Table.{deskPart, deskAt, withDesk, DeskThere, Tells, count, rowStart, row, rows, put, extentOf, sized, legalRows, legalTable, Legal, recordsOf, findIn, enterIn, listedWord, maxSets};
+ghost use Rattle.table.specs.Table.{deskPart, deskAt, withDesk, DeskThere, Tells, count, rowStart, row, rows, put, extentOf, sized, legalRows, legalTable, Legal, recordsOf, findIn, enterIn, listedWord};
 use crate::layout::DESK_START;
 use crate::layout::HEADER;
 use crate::layout::LAYOUT;
@@ -214,6 +212,14 @@ pub fn legal(table: &[u64]) -> bool
     false
 }
 
+// The identifier's word of a slot.
+pub fn id_at(table: &[u64], slot: usize) -> u64
+    requires { ⌜ rowStart (slot + 1) ≤ length (now table) ⌝ }
+    ensures { λ r. ⌜ r ≡ getD (now (table .entry)) (rowStart slot) 0 ⌝ }
+{
+    table[HEADER + slot * ROW]
+}
+
 pub fn find(table: &[u64], id: SetId) -> Found
     requires { ⌜ Legal (now table) ⌝ }
     ensures { λ r. ⌜ r ≡ findIn (now (table .entry)) (id .0) ⌝ }
@@ -256,19 +262,4 @@ pub fn listed_word(table: &[u64]) -> u64
         word = word * 2 + table[HEADER + i * ROW + LISTED];
     }
     word
-}
-
-// The identifiers of all sets by slot, then zeros.
-pub fn identifiers(table: &[u64]) -> [u64; MAX_SETS]
-    requires { ⌜ Legal (now table) ⌝ }
-    ensures { λ r. ⌜ r ≡ sets (replicate maxSets 0) 0 (map idOf (recordsOf (now (table .entry)))) ⌝ }
-{
-    let n = to_size(table[1]);
-    let mut ids = [0u64; MAX_SETS];
-    let mut i = 0;
-    while i < n {
-        ids[i] = table[HEADER + i * ROW];
-        i += 1;
-    }
-    ids
 }

@@ -1,0 +1,31 @@
+use mathlib.Core.Path.{ap, _∙_}
+use Prim.Native.Nat.{ℕ}
+use native.Mathlib.Omega.{arith}
+use borrow.Author.Needs.{needs}
+use lib.ListN.{getD}
+use lib.Seq.{sets}
+use Rattle.octets.specs.Octets.{bytesOf}
+use Rattle.table.specs.Table.{rowStart}
+use Rattle.table.proofs.Turns.{ids-at}
+use Rattle.pages.specs.Aggregate.{listedSize}
+use Rattle.card.proofs.views.put_next.Statement.{statement}
+use Rattle.card.proofs.views.put_next.Tie as tie
+
+pub put-next-spec : {M : Type 1} → statement M
+put-next-spec =
+    tie.close
+    (tie.spec
+    (λ c κs. search needs)
+    (λ c κs.
+    let slot = c .before in
+    let s = slot .before .before .before in
+    omega (arith, s .pre .0 .room, s .pre .1, slot .lowest .ensures))
+    (λ c κs. search needs) (λ c. search needs)
+    (λ c.
+    let put = c .before .before in
+    let id = put .before in
+    let slot = id .before .before in
+    let s = slot .before .before .before in
+    put .put-listed .ensures
+    ∙ ap (λ (n : ℕ). sets (s .args .page .now) (s .args .to) (bytesOf listedSize n))
+    (id .id-at .ensures ∙ ap (λ (k : ℕ). getD (s .args .table .now) (rowStart k) 0) (slot .lowest .ensures) ∙ ids-at (s .args .table .now) (s .pre .0) _ (s .pre .1))))
