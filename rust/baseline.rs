@@ -18,7 +18,7 @@ const CONFIGURATION_BYTES: usize = 512;
 const SET_PAGE_BYTES: usize = 512;
 /// Of page 0Ah, all after these bytes is zero.
 const SET_PAGE_USED: usize = 152;
-const LIST_PAGE_BYTES: usize = 72;
+const LIST_PAGE_BYTES: usize = 136;
 const IDENTIFY_BYTES: usize = 4096;
 
 const TYPICAL_MAX: u64 = u32::MAX as u64;
@@ -605,6 +605,7 @@ fn identify(all: &[u8], command: &[u8; COMMAND_BYTES], answer: &mut [u8]) -> Out
     let page = answer.get_mut(..IDENTIFY_BYTES).ok_or(status::TOO_SHORT)?;
     let from = u64::from(u16_at(command, 44));
     page.fill(0);
+    // There is room for 31 entries; the host asks again for what lies past them.
     let (head, entries) = page.split_at_mut(128);
     for (entry, row) in entries.chunks_exact_mut(128).zip(rows(all).filter(|row| get(row, IDENTIFIER) >= from)) {
         entry[0..2].copy_from_slice(&row[..2]);

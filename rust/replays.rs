@@ -136,7 +136,7 @@ fn make_end(random: &Random, file: &mut impl Write) -> io::Result<()> {
 /// can be, so that nothing else drives it out.
 fn events(sets: u64, items: u64, file: &mut impl Write) -> io::Result<()> {
     if !(1..=MAX_SETS as u64).contains(&sets) {
-        refuse("SETS is 1 to 31");
+        refuse("SETS is 1 to 64");
     }
     let random = Random::new(sets);
     (1..=sets as u16).try_for_each(|set| write_bodies(file, &lasting_body(set)))?;

@@ -6,7 +6,8 @@ use crate::notices::{Notices, NOTICE_DWORD0};
 use crate::set::{Quantity, Set, DAY};
 use crate::status;
 
-/// "Set-up: number of sets, order, an attribute or a body's length wrong 07C4h, then table slice too short 07C2h."
+/// 01: "Set-up: number of sets, order, an attribute or a body's length wrong 07C4h, then table slice too short 07C2h." 02: "Set-up
+/// refuses 65 with 07C4h."
 pub fn set_up(table: &mut [u8], bodies: &[u8]) -> u16 {
     match new_sets(bodies) {
         None => status::BAD_SET_UP,

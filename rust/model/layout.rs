@@ -3,8 +3,8 @@
 use crate::notices::{Notices, MAX_WAITING};
 use crate::set::{Attributes, Configuration, Set, Window};
 
-/// "Up to 31 sets."
-pub const MAX_SETS: usize = 31;
+/// 01: "Up to 31 sets." 02: "Raise the limit to 64."
+pub const MAX_SETS: usize = 64;
 pub const WORD_BYTES: usize = 8;
 pub const ROW_WORDS: usize = field::LISTED + 1;
 pub const HEADER_WORDS: usize = header::REQUESTS + MAX_WAITING;
@@ -68,7 +68,8 @@ pub struct Card {
 }
 
 impl Card {
-    /// 01: "1 to 31 sets, identifiers strictly rising, statics in range; [...]". 02: "at most four waiting, and no flag [...]".
+    /// 01: "1 to 31 sets, identifiers strictly rising, statics in range; [...]". 02: "Raise the limit to 64."; "at most four
+    /// waiting, and no flag [...]".
     fn is_legal(&self) -> bool {
         (1..=MAX_SETS).contains(&self.sets.len())
             && self.sets.iter().all(Set::is_legal)

@@ -6,11 +6,13 @@ use crate::set::{Configuration, Quantity, Set};
 pub const CONFIGURATION_BYTES: usize = 512;
 /// "0Ah, 512 bytes".
 pub const SET_PAGE_BYTES: usize = 512;
-/// "0Bh, 72 bytes".
-pub const LIST_PAGE_BYTES: usize = 72;
+/// 01: "0Bh, 72 bytes". 02: "Page 0Bh becomes 136 bytes."
+pub const LIST_PAGE_BYTES: usize = 136;
 /// "Identify 04h, 4,096 bytes".
 pub const IDENTIFY_BYTES: usize = 4096;
 
+/// 02: "An Identify answer still holds 31 entries".
+pub const IDENTIFY_ENTRIES: usize = 31;
 const IDENTIFY_ENTRY_BYTES: usize = 128;
 
 /// "512 data bytes hold ENEV 1:0, reads threshold 39:32, writes 47:40, time 55:48, the rest zero when returned."
@@ -40,7 +42,8 @@ pub fn set_page(set: &Set) -> Vec<u8> {
     page
 }
 
-/// "0Bh, 72 bytes: 7:0 number of entries, then two bytes each, rising, then zeros." The sets rise, so the listed ones do.
+/// 01: "0Bh, 72 bytes: 7:0 number of entries, then two bytes each, rising, then zeros." 02: "Page 0Bh becomes 136 bytes." The sets
+/// rise, so the listed ones do.
 pub fn list_page(sets: &[Set]) -> Vec<u8> {
     let mut page = vec![0; LIST_PAGE_BYTES];
     let listed: Vec<&Set> = sets.iter().filter(|set| set.listed).collect();
@@ -51,12 +54,14 @@ pub fn list_page(sets: &[Set]) -> Vec<u8> {
     page
 }
 
-/// "byte 0 count; entries of 128 bytes from byte 128, sets with identifier at or above CDW11 15:0."
+/// 01: "byte 0 count; entries of 128 bytes from byte 128, sets with identifier at or above CDW11 15:0." 02: "An Identify answer still
+/// holds 31 entries, so the host asks again from the last identifier plus one": the first 31 such sets, and byte 0 counts these.
 pub fn identify_page(sets: &[Set], from: u16) -> Vec<u8> {
     let mut page = vec![0; IDENTIFY_BYTES];
-    let wanted: Vec<&Set> = sets.iter().filter(|set| set.attributes.identifier >= from).collect();
-    page[0] = wanted.len() as u8;
-    for (entry, set) in page[IDENTIFY_ENTRY_BYTES..].chunks_exact_mut(IDENTIFY_ENTRY_BYTES).zip(wanted) {
+    let wanted = sets.iter().filter(|set| set.attributes.identifier >= from);
+    let shown: Vec<&Set> = wanted.take(IDENTIFY_ENTRIES).collect();
+    page[0] = shown.len() as u8;
+    for (entry, set) in page[IDENTIFY_ENTRY_BYTES..].chunks_exact_mut(IDENTIFY_ENTRY_BYTES).zip(shown) {
         fill_identify_entry(entry, set);
     }
     page

@@ -1,4 +1,4 @@
-//! 01's whole run and its edges, and 02's W1, on the set of the run.
+//! 01's whole run and its edges, 02's W1 and 02's W2, on the set of the run and on others like it.
 
 use crate::commands::{
     ASYNCHRONOUS_EVENT_REQUEST, CONFIGURATION, EVENT_NOTICES, GET_FEATURES, GET_LOG_PAGE, IDENTIFY, LIST_PAGE, SET_FEATURES,
@@ -128,7 +128,7 @@ impl Card {
     /// Status, and the notice that goes beside it.
     fn noticed(&mut self, command: &[u8]) -> (u16, Option<(u16, u32)>) {
         let mut reply = [0xEE; 16];
-        let number = card::command(&mut self.0, command, &[], &mut [0; 72], &mut reply);
+        let number = card::command(&mut self.0, command, &[], &mut [0; 136], &mut reply);
         (number, notice_in(&reply))
     }
 
@@ -403,11 +403,11 @@ fn only_a_read_of_0bh_without_retain_lifts_and_it_sends_nothing() {
     assert_eq!(card.noticed_reads(10), None);
     assert_eq!(card.notices(), state(true, true, true, &[2]));
     card.look(true);
-    assert_eq!(card.noticed(&log(LIST_PAGE, false, 19, 0)), (status::TOO_SHORT, None));
+    assert_eq!(card.noticed(&log(LIST_PAGE, false, 35, 0)), (status::TOO_SHORT, None));
     assert_eq!(card.notices(), state(true, true, true, &[2]));
     assert_eq!((card.switch(false), card.switch(true)), ((0, None), (0, None)));
     assert_eq!(card.notices(), state(true, true, true, &[2]));
-    assert_eq!(card.noticed(&log(LIST_PAGE, false, 1, 72)), (status::SUCCESS, None));
+    assert_eq!(card.noticed(&log(LIST_PAGE, false, 1, 136)), (status::SUCCESS, None));
     assert_eq!((card.notices(), card.set().listed), (state(true, false, false, &[2]), true));
 }
 
@@ -487,4 +487,133 @@ fn replay_adds_a_line_for_the_notice() {
     let expected = "sets 1 0000\n0000 00000000\n07C8 00000000\n0000 00000000\n0000 00000000\n0000 00000000\n0000 00000000\n\
                     00A5 000B0402\n0000 00000000 010000000000000007000000\n0000 00000000\n0000 00000002\n07C1 00000000\nend 10\n";
     assert_eq!(printout(&file), expected);
+}
+
+/// A card of sets like that of the run.
+fn card_of(sets: &[u16]) -> Card {
+    let mut table = vec![0xA5; table_bytes(sets.len())];
+    assert_eq!(card::set_up(&mut table, &bodies_of(sets)), status::SUCCESS);
+    Card(table)
+}
+
+fn bodies_of(sets: &[u16]) -> Vec<u8> {
+    sets.iter().flat_map(|&set| body_of(set)).collect()
+}
+
+/// 10, 20 and so on.
+fn tens(number: u16) -> Vec<u16> {
+    (1..=number).map(|place| 10 * place).collect()
+}
+
+/// 02: "Raise the limit to 64."; "Set-up refuses 65 with 07C4h.", also where the table is too short.
+#[test]
+fn set_up_takes_64_sets_and_refuses_65() {
+    assert_eq!(table_bytes(64), 12_368);
+    let set_up = |sets: u16, length: usize| card::set_up(&mut vec![0xA5; length], &bodies_of(&tens(sets)));
+    assert_eq!((set_up(64, 12_368), set_up(64, 12_367)), (0x0000, 0x07C2));
+    let mut table = vec![0xA5; 20_000];
+    assert_eq!(card::set_up(&mut table, &bodies_of(&tens(65))), 0x07C4);
+    assert_eq!(table, [0xA5; 20_000]);
+    assert_eq!((set_up(65, 0), set_up(66, 20_000), set_up(200, 40_000)), (0x07C4, 0x07C4, 0x07C4));
+}
+
+#[test]
+fn a_table_of_64_sets_is_legal_and_one_of_65_is_not() {
+    let mut table = card_of(&tens(64)).0;
+    assert_eq!(read_table(&table).expect("the table is legal").sets.len(), 64);
+    // A 65th row like the others, and room for it.
+    table.extend_from_within(12_368 - 192..);
+    put_word(&mut table[12_368..], 0, 650);
+    assert!(read_table(&table).is_some());
+    put_word(&mut table, header::SETS, 65);
+    assert!(read_table(&table).is_none());
+}
+
+/// 02: "Page 0Bh becomes 136 bytes.": of 64 sets all may be listed, and the last entry ends the page.
+#[test]
+fn page_0bh_has_136_bytes() {
+    let mut card = card_of(&tens(64));
+    for set in tens(64) {
+        let enable = command(SET_FEATURES, [CONFIGURATION.into(), set.into(), 1, 0]);
+        assert_eq!(card.give(&enable, &configuration(0x8000, [0; 3])).0, status::SUCCESS);
+    }
+    card.tick(20);
+    for set in tens(64) {
+        assert_eq!(card.give(&command(SET_FEATURES, [WINDOW.into(), set.into(), 1, 0]), &[]).0, status::SUCCESS);
+        assert_eq!(card::excursion(&mut card.0, set, &mut []), status::SUCCESS);
+    }
+    let mut page = vec![64, 0, 0, 0, 0, 0, 0, 0];
+    page.extend(tens(64).iter().flat_map(|set| set.to_le_bytes()));
+    assert_eq!(page.len(), 136);
+    let mut look = |dwords: u32, offset: u32| card.give(&log(LIST_PAGE, true, dwords, offset), &[]);
+    assert_eq!(look(34, 0), (status::SUCCESS, 0, page.clone()));
+    // The entries of slots 32 and 33 lie where the page of 31 sets ended, those of 62 and 63 at the end of this one.
+    assert_eq!(look(1, 72).2, [330u16.to_le_bytes(), 340u16.to_le_bytes()].concat());
+    assert_eq!(look(2, 132).2, [&630u16.to_le_bytes()[..], &640u16.to_le_bytes(), &[0; 4]].concat());
+    page.extend([0; 4]);
+    assert_eq!(look(35, 0).2, page);
+    assert_eq!(look(1, 136), (status::SUCCESS, 0, vec![0; 4]));
+    assert_eq!(look(1, 140), (status::INVALID_FIELD, 0, vec![]));
+}
+
+/// 02: "so the host asks again from the last identifier plus one; [...] until a count below 31, or a last identifier of 65,535".
+/// The count of each answer, and the identifiers of all one after the other.
+fn ask(card: &mut Card, start: u16) -> (Vec<u8>, Vec<u16>) {
+    let (mut counts, mut identifiers, mut from) = (Vec::new(), Vec::new(), start);
+    loop {
+        let page = card.give(&command(IDENTIFY, [SET_LIST.into(), from.into(), 0, 0]), &[]).2;
+        let entries = &page[128..128 * (1 + usize::from(page[0]))];
+        identifiers.extend(entries.chunks_exact(128).map(|entry| little_endian(&entry[0..2]) as u16));
+        counts.push(page[0]);
+        match identifiers.last() {
+            Some(&last) if page[0] == 31 && last < 65_535 => from = last + 1,
+            _ => return (counts, identifiers),
+        }
+    }
+}
+
+#[test]
+fn asking_again_gives_each_set_once() {
+    let cases: [(u16, &[u8]); 9] = [
+        (1, &[1]),
+        (30, &[30]),
+        (31, &[31, 0]),
+        (32, &[31, 1]),
+        (40, &[31, 9]),
+        (61, &[31, 30]),
+        (62, &[31, 31, 0]),
+        (63, &[31, 31, 1]),
+        (64, &[31, 31, 2]),
+    ];
+    for (sets, counts) in cases {
+        let all = tens(sets);
+        let mut card = card_of(&all);
+        for start in [0, 1, 10] {
+            assert_eq!(ask(&mut card, start), (counts.to_vec(), all.clone()));
+        }
+    }
+    // From elsewhere: 33 sets are at or above 311, 31 above 330, and 30 above 340.
+    let mut card = card_of(&tens(64));
+    let from = |place: usize| tens(64)[place..].to_vec();
+    assert_eq!(ask(&mut card, 311), (vec![31, 2], from(31)));
+    assert_eq!(ask(&mut card, 331), (vec![31, 0], from(33)));
+    assert_eq!(ask(&mut card, 341), (vec![30], from(34)));
+    assert_eq!(ask(&mut card, 641), (vec![0], vec![]));
+}
+
+#[test]
+fn a_last_identifier_of_65535_ends_the_asking() {
+    for (sets, counts) in [(1, &[1][..]), (31, &[31]), (32, &[31, 1]), (62, &[31, 31]), (63, &[31, 31, 1]), (64, &[31, 31, 2])] {
+        let all: Vec<u16> = (0..sets).map(|place| 65_535 - 2 * (sets - 1 - place)).collect();
+        assert_eq!(ask(&mut card_of(&all), 0), (counts.to_vec(), all));
+    }
+}
+
+/// "sets N SSSS" has the number of bodies, however many they are.
+#[test]
+fn replay_counts_all_bodies() {
+    for (sets, expected) in [(64, "sets 64 0000\nend 0\n"), (65, "sets 65 07C4\n"), (100, "sets 100 07C4\n")] {
+        let file: Vec<u8> = tens(sets).iter().flat_map(|&set| [vec![tape::SET_ATTRIBUTES], body_of(set)].concat()).collect();
+        assert_eq!(printout(&file), expected);
+    }
 }

@@ -53,6 +53,8 @@ const WIDTHS: [usize; 13] = [2, 2, 4, 4, 8, 8, 8, 8, 8, 8, 8, 8, 8];
 
 /// Room for one set more than a card may have.
 const ROOM: usize = HEADER_WORDS + (MAX_SETS + 1) * ROW_WORDS;
+/// As many bodies as a case may lend: far more than a card may have.
+const BODIES: u64 = 200;
 const ANSWER_BYTES: usize = 4096;
 const LONG_TICK: u32 = 86_400_001;
 
@@ -124,7 +126,10 @@ impl<'a> Cases<'a> {
     /// All rows are there, those past the card's sets too.
     fn new_card(&mut self, sets: &[&str]) {
         self.sets = match sets {
-            ["many"] => (1..=MAX_SETS as u64 + 1).map(|number| numbered(self.attributes["7"], 10 * number)).collect(),
+            ["many", sets, first, step] => {
+                let identifier = |place: u64| number(first) + number(step) * place;
+                (0..number(sets)).map(|place| numbered(self.attributes["7"], identifier(place))).collect()
+            }
             _ => sets.iter().map(|name| self.attributes[name]).collect(),
         };
         self.table = vec![0; WORD_BYTES * ROOM];
@@ -212,8 +217,7 @@ impl<'a> Cases<'a> {
     }
 
     fn set_up(&mut self, words: &[&str], answered: u16) -> Tried {
-        let mut bodies: Vec<Attributes> =
-            (1..=MAX_SETS as u64 + 2).map(|number| numbered(self.attributes["plain"], 10 * number)).collect();
+        let mut bodies: Vec<Attributes> = (1..=BODIES).map(|number| numbered(self.attributes["plain"], 10 * number)).collect();
         let (mut lent, mut length) = (ROOM, 0);
         for word in words {
             match word.split_once('=').expect("a word and its value") {
@@ -241,9 +245,9 @@ impl<'a> Cases<'a> {
         self.check(&call, expected)
     }
 
-    /// An item for every set of a card of many, its name in the place of the star.
+    /// An item for every set of the card, its name in the place of the star.
     fn each(&mut self, words: &[&str], expected: &str) -> Tried {
-        for slot in 0..MAX_SETS {
+        for slot in 0..self.sets.len().min(MAX_SETS) {
             let name = self.sets[slot][0].to_string();
             let words: Vec<&str> = words.iter().map(|&word| if word == "*" { &name } else { word }).collect();
             self.item(&words, expected)?;
@@ -299,13 +303,15 @@ impl<'a> Cases<'a> {
     }
 
     /// "byte 0 count; entries of 128 bytes from byte 128 [...]. Entry: 1:0 identifier, 3:2 group, 11:8 random read typical, 15:12
-    /// optimal write size, 31:16 total, 47:32 unallocated, rest zero."
+    /// optimal write size, 31:16 total, 47:32 unallocated, rest zero." "An Identify answer still holds 31 entries".
     fn set_list(&self, sets: &str) -> Vec<u8> {
-        let shown: Vec<&Attributes> = match sets {
-            "none" => Vec::new(),
-            "all" => self.sets[..MAX_SETS].iter().collect(),
-            _ => sets.split(',').map(|set| self.sets.iter().find(|a| a[0] == number(set)).expect("a set of the card")).collect(),
+        let place = |set: &str| self.sets.iter().position(|a| a[0] == number(set)).expect("a set of the card");
+        let shown: Vec<&Attributes> = match sets.split_once("..") {
+            Some((first, last)) => self.sets[place(first)..=place(last)].iter().collect(),
+            None if sets == "none" => Vec::new(),
+            None => sets.split(',').map(|set| &self.sets[place(set)]).collect(),
         };
+        assert!(shown.len() <= 31, "a case lists more than an answer can hold: {}", sets);
         let mut page = vec![0; 4096];
         page[0] = shown.len() as u8;
         for (entry, attributes) in page[128..].chunks_exact_mut(128).zip(shown) {

@@ -6,14 +6,16 @@ use model::layout::{header, put_word, word_of, BODY_BYTES, HEADER_BYTES, HEADER_
 use model::layout::{ROW_BYTES, ROW_WORDS, WORD_BYTES};
 
 /// The bounds of the fields, and their neighbours.
-const LIMITS: [u64; 22] = [
+const LIMITS: [u64; 24] = [
     0,
     1,
     2,
     3,
-    30,
     31,
     32,
+    63,
+    64,
+    65,
     0xFFFF,
     0x1_0000,
     0x1_0001,
@@ -54,7 +56,8 @@ pub fn damage_table(random: &Random, table: &mut Vec<u8>) {
 
 fn spoil_header(random: &Random, table: &mut [u8]) {
     let sets = (table.len() / ROW_BYTES) as u64;
-    let number = random.pick(&[sets - 1, sets + 1, random.pick(&LIMITS), sets | 1 << random.below(64), random.uneven()]);
+    let near = random.between(MAX_SETS as u64 - 1, MAX_SETS as u64 + 2);
+    let number = random.pick(&[sets - 1, sets + 1, near, random.pick(&LIMITS), sets | 1 << random.below(64), random.uneven()]);
     put_word(table, header::SETS, number);
 }
 
@@ -89,7 +92,7 @@ fn spoil_notices(random: &Random, table: &mut [u8]) {
     }
 }
 
-/// Adds the last row again, with a higher identifier: of 31 sets that is one too many, and else legal.
+/// Adds the last row again, with a higher identifier: of 64 sets that is one too many, and else legal.
 fn add_row(random: &Random, table: &mut Vec<u8>) {
     let last = table.len() - ROW_BYTES;
     let sets = word_of(table, header::SETS);
@@ -192,13 +195,13 @@ const ATTRIBUTES: [(usize, usize); 11] =
 
 /// Spoils good bodies in some way.
 pub fn damage_bodies(random: &Random, bodies: &mut Vec<u8>) {
-    match random.below(10) {
+    match random.below(11) {
         0 => bodies.clear(),
         1 => bodies.truncate(random.place(bodies.len())),
         2 => bodies.extend(random.bytes(random.pick(&[1, 83, 84, 85]))),
-        3 => repeat_bodies(random, bodies),
-        4 => swap_bodies(random, bodies),
-        5 => *bodies = random.bytes(random.pick(&[1, 83, 84, 85, 168])),
+        3..=4 => repeat_bodies(random, bodies),
+        5 => swap_bodies(random, bodies),
+        6 => *bodies = random.bytes(random.pick(&[1, 83, 84, 85, 168])),
         _ => spoil_attribute(random, bodies),
     }
 }
@@ -206,7 +209,7 @@ pub fn damage_bodies(random: &Random, bodies: &mut Vec<u8>) {
 /// Far or just too many bodies, or enough, in an order that does not rise.
 fn repeat_bodies(random: &Random, bodies: &mut Vec<u8>) {
     let whole = bodies.clone();
-    let sets = random.pick(&[MAX_SETS, MAX_SETS + 1, 2 * MAX_SETS, 200]);
+    let sets = random.pick(&[MAX_SETS, MAX_SETS + 1, MAX_SETS + 1, MAX_SETS + 2, 2 * MAX_SETS, 200]);
     while bodies.len() < sets * BODY_BYTES {
         bodies.extend_from_slice(&whole);
     }

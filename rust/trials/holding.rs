@@ -52,7 +52,7 @@ impl World {
             0 => needed - 1 - random.place(needed),
             1 => needed - random.between(1, 8) as usize,
             2 => needed + random.place(24),
-            3 => 10_000,
+            3 => 20_000,
             _ => needed,
         };
         let table = random.bytes(length);
@@ -125,7 +125,11 @@ pub fn hold(name: &str, taker: &mut dyn Takes, seed: u64, trials: u64) -> bool {
 
 /// Gives the calls to one that takes them. Prints the first call on which it differs from the model, and answers its place.
 pub fn first_difference(name: &str, taker: &mut dyn Takes, calls: &[Call], outcomes: &[Outcome]) -> Option<usize> {
-    let theirs = taker.outcomes(calls);
+    difference(name, calls, &taker.outcomes(calls), outcomes)
+}
+
+/// The same of outcomes that are there already.
+pub fn difference(name: &str, calls: &[Call], theirs: &[Outcome], outcomes: &[Outcome]) -> Option<usize> {
     let place = theirs.iter().zip(outcomes).position(|(theirs, model)| theirs != model)?;
     println!("DIFFERENCE of {} and the model", name);
     calls[place].print(&[(name, &theirs[place]), ("model", &outcomes[place])]);

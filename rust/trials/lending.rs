@@ -1,4 +1,4 @@
-//! Random calls of the two functions over references: set-up from a list of three sets or of 31, and events of one lent record.
+//! Random calls of the two functions over references: set-up from a list of three sets or of 64, and events of one lent record.
 
 use crate::calls::{Call, Function, Outcome, Takes};
 use crate::damage::{damage_bodies, damage_table};
@@ -16,10 +16,13 @@ use std::collections::BTreeMap;
 const BATCH: u64 = 100;
 
 /// What must be met, each in one call of a thousand.
-const MET: [&str; 8] = [
-    "set-up 0000",
-    "set-up 07C2",
-    "set-up 07C4",
+const MET: [&str; 11] = [
+    "set-up of 3 sets 0000",
+    "set-up of 3 sets 07C2",
+    "set-up of 3 sets 07C4",
+    "set-up of 64 sets 0000",
+    "set-up of 64 sets 07C2",
+    "set-up of 64 sets 07C4",
     "event 0000",
     "event 07C3",
     "event that changes the record",
@@ -129,7 +132,9 @@ fn has_small_limits(of: &Attributes) -> bool {
 
 /// Whether each body is one of attributes that a record can hold.
 fn fit_attributes(bodies: &[u8]) -> bool {
-    bodies.chunks_exact(BODY_BYTES).all(|body| has_small_limits(&read_body(body.try_into().expect("a body is cut to its length"))))
+    bodies
+        .chunks_exact(BODY_BYTES)
+        .all(|body| has_small_limits(&read_body(body.try_into().expect("a body is cut to its length"))))
 }
 
 fn set_up(random: &Random) -> Call {
@@ -137,8 +142,7 @@ fn set_up(random: &Random) -> Call {
     let needed = table_bytes(sets);
     let length = random.pick(&[needed, needed, needed + 8 * random.place(40), random.place(needed)]);
     let bodies = loop {
-        let mut bodies = samples::bodies(random);
-        bodies.truncate(sets * BODY_BYTES);
+        let mut bodies = samples::bodies_of(random, sets as u64, random.once_in(16));
         if random.once_in(2) {
             damage_bodies(random, &mut bodies);
         }
@@ -152,10 +156,14 @@ fn set_up(random: &Random) -> Call {
 fn met_by(call: &Call, outcome: &Outcome) -> Vec<&'static str> {
     let word = |table: &[u8], field: usize| word_of(&table[HEADER_BYTES..], field);
     let (before, after) = (call.regions.table.content(), outcome.regions.table.content());
+    let is_full = call.regions.data.content().len() == MAX_SETS * BODY_BYTES;
     match (call.function, outcome.status) {
-        (Function::SetUp, status::SUCCESS) => vec!["set-up 0000"],
-        (Function::SetUp, status::TOO_SHORT) => vec!["set-up 07C2"],
-        (Function::SetUp, _) => vec!["set-up 07C4"],
+        (Function::SetUp, status::SUCCESS) if is_full => vec!["set-up of 64 sets 0000"],
+        (Function::SetUp, status::TOO_SHORT) if is_full => vec!["set-up of 64 sets 07C2"],
+        (Function::SetUp, _) if is_full => vec!["set-up of 64 sets 07C4"],
+        (Function::SetUp, status::SUCCESS) => vec!["set-up of 3 sets 0000"],
+        (Function::SetUp, status::TOO_SHORT) => vec!["set-up of 3 sets 07C2"],
+        (Function::SetUp, _) => vec!["set-up of 3 sets 07C4"],
         (_, status::SUCCESS) => {
             let effects = [
                 ("event 0000", true),

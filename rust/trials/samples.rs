@@ -9,6 +9,7 @@ use model::commands::{
 };
 use model::layout::{table_bytes, Card, BODY_BYTES, MAX_SETS};
 use model::notices::Notices;
+use model::pages::{IDENTIFY_BYTES, IDENTIFY_ENTRIES, LIST_PAGE_BYTES, SET_PAGE_BYTES};
 use model::set::{Quantity, Set, Window, DAY, EXCEEDED};
 use model::status;
 
@@ -26,19 +27,28 @@ pub enum Item {
     Tick { milliseconds: u32 },
 }
 
-/// Good bodies of 1 to 31 sets.
+/// Good bodies of 1 to 64 sets: mostly of few, which are quicker, and else often of about as many as one Identify answer holds, or
+/// two.
 pub fn bodies(random: &Random) -> Vec<u8> {
-    let sets = match random.below(8) {
-        0 => 1,
-        1 => MAX_SETS as u64,
-        2..=5 => random.between(1, 4),
-        _ => random.between(1, MAX_SETS as u64),
+    let most = MAX_SETS as u64;
+    let sets = match random.below(24) {
+        0..=2 => 1,
+        3 => most,
+        4 => random.pick(&[30, 31, 32, 33, 61, 62, 63]),
+        5..=6 => random.between(1, most),
+        _ => random.between(1, 4),
     };
-    let largest_step = random.pick(&[1, 2, 3, 2_000]);
-    let mut identifier = if random.once_in(16) { u64::from(u16::MAX) - sets * largest_step } else { 0 };
+    bodies_of(random, sets, random.once_in(16))
+}
+
+/// Good bodies of so many sets. Their identifiers rise from the least, or up to the largest that there is.
+pub fn bodies_of(random: &Random, sets: u64, to_the_last: bool) -> Vec<u8> {
+    let largest_step = random.pick(&[1, 2, 3, 1_000]);
+    let steps: Vec<u64> = (0..sets).map(|_| random.between(1, largest_step)).collect();
+    let mut identifier = if to_the_last { u64::from(u16::MAX) - steps.iter().sum::<u64>() } else { 0 };
     let mut bodies = Vec::new();
-    for _ in 0..sets {
-        identifier += random.between(1, largest_step);
+    for step in steps {
+        identifier += step;
         bodies.extend(body(random, identifier as u16));
     }
     bodies
@@ -46,9 +56,13 @@ pub fn bodies(random: &Random) -> Vec<u8> {
 
 /// A card just set up.
 pub fn table(random: &Random) -> Vec<u8> {
-    let bodies = bodies(random);
+    table_from(&bodies(random))
+}
+
+/// A card just set up from good bodies.
+pub fn table_from(bodies: &[u8]) -> Vec<u8> {
     let mut table = vec![0; table_bytes(bodies.len() / BODY_BYTES)];
-    assert_eq!(model::set_up(&mut table, &bodies), status::SUCCESS);
+    assert_eq!(model::set_up(&mut table, bodies), status::SUCCESS);
     table
 }
 
@@ -190,7 +204,7 @@ fn answer_bytes(random: &Random, command: &[u8]) -> usize {
         0..=5 => 4096,
         6..=7 => asked,
         8 => asked.saturating_sub(1),
-        9 => random.pick(&[0, 71, 72, 511, 512, 513, 4095, 4097]),
+        9 => random.pick(&[0, LIST_PAGE_BYTES - 1, LIST_PAGE_BYTES, 511, 512, 513, 4095, 4097]),
         _ => random.place(4201),
     }
 }
@@ -292,9 +306,9 @@ fn command_item(random: &Random, sets: &[Set]) -> Item {
         5..=6 => set_window(random, set),
         7 => get_feature(random, set, CONFIGURATION),
         8 => get_feature(random, set, WINDOW),
-        9..=12 => get_log_page(random, set, SET_PAGE, 512),
-        13..=15 => get_log_page(random, set, LIST_PAGE, 72),
-        _ => identify(random, set),
+        9..=12 => get_log_page(random, set, SET_PAGE, SET_PAGE_BYTES),
+        13..=15 => get_log_page(random, set, LIST_PAGE, LIST_PAGE_BYTES),
+        _ => identify(random, start_of_asking(random, sets)),
     };
     if random.once_in(5) {
         fields.mutate(random, set);
@@ -376,24 +390,34 @@ fn anything(random: &Random, fid: u8, ignored: u32) -> Fields {
 
 /// A read of 0Ah with Retain 0, from any offset.
 fn clearing_read(random: &Random, set: &Set) -> Fields {
-    let mut fields = get_log_page(random, set, SET_PAGE, 512);
+    let mut fields = get_log_page(random, set, SET_PAGE, SET_PAGE_BYTES);
     fields.dwords[0] &= !RETAIN;
     fields
 }
 
 /// A read of 0Bh with Retain 0, from any offset.
 fn lifting_read(random: &Random, sets: &[Set]) -> Fields {
-    let mut fields = get_log_page(random, &sets[0], LIST_PAGE, 72);
+    let mut fields = get_log_page(random, &sets[0], LIST_PAGE, LIST_PAGE_BYTES);
     fields.dwords[0] &= !RETAIN;
     fields
 }
 
-fn get_log_page(random: &Random, set: &Set, page: u8, page_bytes: u64) -> Fields {
-    let count = (dwords(random, page_bytes) - 1) as u32;
-    let offset = offset(random, page_bytes);
+fn get_log_page(random: &Random, set: &Set, page: u8, page_bytes: usize) -> Fields {
+    let page_bytes = page_bytes as u64;
+    log_read(random, set.attributes.identifier, page, dwords(random, page_bytes), offset(random, page_bytes))
+}
+
+/// A read of page 0Bh of so many dwords from an offset.
+pub fn list_read(random: &Random, dwords: u64, offset: u64) -> Item {
+    let fields = log_read(random, random.word() as u16, LIST_PAGE, dwords, offset);
+    Item::Command { command: fields.command(random), data: Vec::new() }
+}
+
+fn log_read(random: &Random, set: u16, page: u8, dwords: u64, offset: u64) -> Fields {
+    let count = (dwords - 1) as u32;
+    let set = u32::from(set);
     let retain = if random.once_in(2) { RETAIN } else { 0 };
     let ignored = random.word() as u32 & 0x7F00;
-    let set = u32::from(set.attributes.identifier);
     Fields {
         opcode: GET_LOG_PAGE,
         identifier: None,
@@ -423,9 +447,26 @@ fn offset(random: &Random, page_bytes: u64) -> u64 {
     }
 }
 
-fn identify(random: &Random, set: &Set) -> Fields {
+/// Where a host may start to ask for the list of sets, or ask again: below all sets, at one, near it, after as many as one answer
+/// holds, or two, where just as many are left, and anywhere.
+pub fn start_of_asking(random: &Random, sets: &[Set]) -> u16 {
+    let set = &sets[random.place(sets.len())];
     let near = other_set(random, set);
-    let from = u32::from(random.pick(&[0, 1, set.attributes.identifier, near]));
+    let after = |entries: usize| sets.get(entries - 1).map_or(0, |last| last.attributes.identifier.saturating_add(1));
+    let left = sets.len().checked_sub(IDENTIFY_ENTRIES).map_or(0, |slot| sets[slot].attributes.identifier);
+    let again = random.pick(&[after(IDENTIFY_ENTRIES), after(2 * IDENTIFY_ENTRIES), left]);
+    random.pick(&[0, 0, 1, set.attributes.identifier, near, again, random.word() as u16])
+}
+
+/// An Identify that is carried out, of the sets from this identifier on.
+pub fn identify_call(random: &Random, from: u16, table: &[u8]) -> Call {
+    let command = identify(random, from).command(random);
+    let answer = random.bytes(IDENTIFY_BYTES + random.pick(&[0, 0, random.place(40)]));
+    Call { function: Function::Command, regions: Regions::new(random, table, [&command, &[], &answer, &random.bytes(16)]) }
+}
+
+fn identify(random: &Random, from: u16) -> Fields {
+    let from = u32::from(from);
     let noise = random.word();
     Fields {
         opcode: IDENTIFY,
