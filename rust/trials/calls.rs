@@ -3,8 +3,10 @@
 use crate::entries::Entries;
 use crate::random::Random;
 use model::commands::{
-    ASYNCHRONOUS_EVENT_REQUEST, COMMAND_BYTES, EVENT_NOTICES, GET_FEATURES, GET_LOG_PAGE, LIST_PAGE, SET_FEATURES, SET_PAGE,
+    ASYNCHRONOUS_EVENT_REQUEST, COMMAND_BYTES, EVENT_NOTICES, GET_FEATURES, GET_LOG_PAGE, IDENTIFY, LIST_PAGE, SET_FEATURES,
+    SET_LIST, SET_PAGE,
 };
+use model::layout::little_endian;
 use model::tape;
 
 const GUARD_BYTES: usize = 16;
@@ -135,6 +137,20 @@ impl Call {
     pub fn list_read(&self) -> Option<bool> {
         let command = self.whole_command()?;
         (command[0] == GET_LOG_PAGE && command[40] == LIST_PAGE).then(|| command[41] & 0x80 != 0)
+    }
+
+    /// Offset and dwords of a read of 0Bh.
+    pub fn list_part(&self) -> Option<(u64, u64)> {
+        self.list_read()?;
+        let command = self.whole_command()?;
+        let count = u64::from(half(command, 44)) << 16 | u64::from(half(command, 42));
+        Some((little_endian(&command[48..56]) as u64, count + 1))
+    }
+
+    /// The identifier from which an Identify lists sets.
+    pub fn identify_from(&self) -> Option<u16> {
+        let command = self.whole_command()?;
+        (command[0] == IDENTIFY && command[40] == SET_LIST).then(|| half(command, 44))
     }
 
     /// The set that the item names: "events other than ticks, feature commands and reads of 0Ah"; but "Opcode 0Ch and FID 0Bh [...]

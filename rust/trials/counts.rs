@@ -3,8 +3,9 @@
 use crate::calls::{Call, Function, Outcome};
 use crate::holding::Trial;
 use model::commands::{CONFIGURATION, EVENT_NOTICES};
-use model::layout::Card;
+use model::layout::{header, put_word, read_table, table_bytes, word_of, Card, BODY_BYTES, MAX_SETS};
 use model::notices::Notices;
+use model::pages::{IDENTIFY_ENTRIES, LIST_PAGE_BYTES};
 use model::set::{Quantity, Set, Window};
 use model::status;
 use std::collections::BTreeMap;
@@ -74,6 +75,19 @@ const NOTICES: [&str; 24] = [
     "Get 0Bh while off",
 ];
 
+/// What is met of cards with many sets.
+const MANY: [&str; 9] = [
+    "set-up of 64 sets",
+    "set-up of 65 sets refused for their number",
+    "item on 64 sets",
+    "65 sets refused though their rows are there",
+    "Identify shows 31 sets, and there are more",
+    "Identify shows 31 sets, and there are no more",
+    "Identify shows none",
+    "page 0Bh at offset 136",
+    "page 0Bh refused at offset 140",
+];
+
 pub struct Counts {
     statuses: BTreeMap<u16, u64>,
     branches: BTreeMap<&'static str, u64>,
@@ -84,7 +98,7 @@ impl Counts {
         let bits = EVENT_BITS.iter().map(|&(_, name)| name);
         Counts {
             statuses: status::ALL.iter().map(|&number| (number, 0)).collect(),
-            branches: BRANCHES.iter().chain(&NOTICES).copied().chain(bits).map(|name| (name, 0)).collect(),
+            branches: BRANCHES.iter().chain(&NOTICES).chain(&MANY).copied().chain(bits).map(|name| (name, 0)).collect(),
         }
     }
 
@@ -98,6 +112,41 @@ impl Counts {
             let refused = outcome.status == status::BAD_TABLE;
             self.branch(if refused { "damaged table refused" } else { "damaged table still legal" });
         }
+        self.many(&trial.call, outcome.status);
+    }
+
+    /// Counts what the number of sets, or the end of page 0Bh, has to do with.
+    fn many(&mut self, call: &Call, number: u16) {
+        let (table, bodies) = (call.regions.table.content(), call.regions.data.content());
+        if call.function == Function::SetUp {
+            if number == status::SUCCESS && bodies.len() == MAX_SETS * BODY_BYTES {
+                self.branch("set-up of 64 sets");
+            }
+            if number == status::BAD_SET_UP && is_one_body_too_many(bodies) {
+                self.branch("set-up of 65 sets refused for their number");
+            }
+            return;
+        }
+        if number == status::BAD_TABLE && is_one_row_too_many(table) {
+            self.branch("65 sets refused though their rows are there");
+        }
+        match (call.list_part(), number) {
+            (Some((offset, _)), status::SUCCESS) if offset == LIST_PAGE_BYTES as u64 => self.branch("page 0Bh at offset 136"),
+            (Some((offset, dwords)), status::INVALID_FIELD) if offset == LIST_PAGE_BYTES as u64 + 4 && dwords <= 1_024 => {
+                self.branch("page 0Bh refused at offset 140")
+            }
+            _ => (),
+        }
+    }
+
+    /// Counts an Identify that was carried out by the sets that it was asked for.
+    fn identified(&mut self, from: u16, sets: &[Set]) {
+        match sets.iter().filter(|set| set.attributes.identifier >= from).count() {
+            0 => self.branch("Identify shows none"),
+            IDENTIFY_ENTRIES => self.branch("Identify shows 31 sets, and there are no more"),
+            wanted if wanted > IDENTIFY_ENTRIES => self.branch("Identify shows 31 sets, and there are more"),
+            _ => (),
+        }
     }
 
     /// Counts what the trial did to each set, and to requests and notices.
@@ -107,6 +156,12 @@ impl Counts {
             self.window(call, before, after);
         }
         self.notices(call, before, after);
+        if before.sets.len() == MAX_SETS {
+            self.branch("item on 64 sets");
+        }
+        if let Some(from) = call.identify_from() {
+            self.identified(from, &before.sets);
+        }
     }
 
     fn notices(&mut self, call: &Call, before: &Card, after: &Card) {
@@ -294,4 +349,20 @@ impl Default for Counts {
     fn default() -> Counts {
         Counts::new()
     }
+}
+
+/// 65 bodies, of which any 64 in a row are good: so only their number is wrong.
+fn is_one_body_too_many(bodies: &[u8]) -> bool {
+    let is_good = |bodies: &[u8]| model::set_up(&mut [0; table_bytes(MAX_SETS)], bodies) == status::SUCCESS;
+    bodies.len() == (MAX_SETS + 1) * BODY_BYTES && is_good(&bodies[BODY_BYTES..]) && is_good(&bodies[..MAX_SETS * BODY_BYTES])
+}
+
+/// A table of 65 rows, of which the first 64 would be legal.
+fn is_one_row_too_many(table: &[u8]) -> bool {
+    if table.len() < table_bytes(MAX_SETS + 1) || word_of(table, header::SETS) != MAX_SETS as u64 + 1 {
+        return false;
+    }
+    let mut fewer = table[..table_bytes(MAX_SETS)].to_vec();
+    put_word(&mut fewer, header::SETS, MAX_SETS as u64);
+    read_table(&fewer).is_some()
 }

@@ -8,6 +8,7 @@ use crate::random::Random;
 use crate::samples;
 use model::layout::field::{IDENTIFIER, LISTED};
 use model::layout::{header, put_word, read_table, word_of, HEADER_BYTES, MAX_SETS, ROW_BYTES};
+use model::pages::IDENTIFY_ENTRIES;
 
 /// How many items a card lives through.
 const HISTORY: u64 = 200;
@@ -90,6 +91,7 @@ impl History<'_> {
         let between = self.whole.clone();
         let second = self.play(items[1])?;
         met.changing += u64::from(before != between && between != self.whole);
+        met.large += u64::from(rows(&before).count() > IDENTIFY_ENTRIES);
         met.listing += u64::from(listed(&before) < listed(&between) || listed(&between) < listed(&self.whole));
         let other_second = play(self.entries, items[1], &mut self.exchanged);
         let other_first = play(self.entries, items[0], &mut self.exchanged);
@@ -136,6 +138,8 @@ struct Met {
     noticed: u64,
     /// Pairs whose notice goes to the other item where they are exchanged.
     moved: u64,
+    /// Pairs on a card of more sets than one Identify answer holds.
+    large: u64,
 }
 
 impl Met {
@@ -146,6 +150,7 @@ impl Met {
         println!("{:>9}  of which one lists a set", self.listing);
         println!("{:>9}  of which one gives a notice", self.noticed);
         println!("{:>9}  of which the other gives it where they are exchanged", self.moved);
+        println!("{:>9}  of which on a card of more than 31 sets", self.large);
     }
 
     /// Whether enough of the pairs did something. Seldom do both items of a pair list a set, so that a notice moves.
@@ -154,12 +159,13 @@ impl Met {
             && self.listing >= items / 100
             && self.noticed >= items / 1_000
             && self.moved >= items / 10_000
+            && self.large >= items / 500
     }
 }
 
 /// Plays histories of at least so many items. Answers whether the order made no difference, and enough of the pairs did something:
 /// for each ten items one pair of which both change the table, for each hundred one that lists a set, for each thousand one that
-/// gives a notice, and for each ten thousand one whose notice moves.
+/// gives a notice, and for each ten thousand one whose notice moves; and for each five hundred one on a card of more than 31 sets.
 pub fn hold_swapping(name: &str, entries: &Entries, seed: u64, items: u64) -> bool {
     println!("{}: neighbours exchanged, and each set alone: seed {}, {} items", name, seed, items);
     let random = Random::new(seed);
