@@ -82,8 +82,8 @@ static inline int card_is_refusal(uint16_t number)
 #define CARD_FEATURE_CONFIG 0x13u /* Predictable Latency Mode Config */
 #define CARD_FEATURE_WINDOW 0x14u /* Predictable Latency Mode Window */
 #define CARD_PAGE_LATENCY 0x0Au   /* Predictable Latency Per NVM Set, 512 bytes */
-#define CARD_PAGE_AGGREGATE 0x0Bu /* Predictable Latency Event Aggregate, 72 bytes */
-#define CARD_CNS_SET_LIST 0x04u   /* NVM Set List, 4,096 bytes */
+#define CARD_PAGE_AGGREGATE 0x0Bu /* Predictable Latency Event Aggregate, CARD_AGGREGATE_BYTES */
+#define CARD_CNS_SET_LIST 0x04u   /* NVM Set List, 4,096 bytes, of at most CARD_SET_LIST_ENTRIES sets */
 
 /* the one bit of feature 0Bh that the card keeps: in CDW11 of Set Features, and in dword 0 of Get Features. Others are ignored, and 0. */
 #define CARD_EVENTS_PREDICTABLE_LATENCY 0x1000u
@@ -100,9 +100,12 @@ static inline int card_is_refusal(uint16_t number)
 #define CARD_EVENT_EXCEEDED 0x4000u  /* a typical was exceeded, or the time is up */
 #define CARD_EVENT_EXCURSION 0x8000u /* the set could not be kept deterministic */
 
-#define CARD_MAX_SETS 31
+#define CARD_MAX_SETS 64
 #define CARD_MAX_WAITING 4      /* requests */
 #define CARD_MAX_TICK 86400000u /* one day, in ms */
+
+#define CARD_SET_LIST_ENTRIES 31 /* in one Identify answer: card_command says how to ask for the rest */
+#define CARD_AGGREGATE_BYTES 136 /* page 0Bh: the number of entries, and CARD_MAX_SETS of two bytes */
 
 #define CARD_COMMAND_BYTES 64  /* a submission queue entry */
 #define CARD_CONFIG_BYTES 512  /* the data of feature 13h */
@@ -126,8 +129,9 @@ static inline int card_is_refusal(uint16_t number)
 #define CARD_COMMAND_STACK_BYTES 2048
 #define CARD_STACK_BYTES 768 /* of any function but card_command */
 
-/* How many bytes the table of so many sets takes: 272 for one set, 6,032 for 31. Bytes after them are neither read nor written. A
-   table keeps the number of its layout: one that another version of the library wrote is CARD_BAD_TABLE, and set-up makes it anew. */
+/* How many bytes the table of so many sets takes: 272 for one set, 12,368 for 64. Bytes after them are neither read nor written. A
+   table keeps the number of its layout: one of another layout, as another version of the library may have written it, is
+   CARD_BAD_TABLE, and set-up makes it anew. */
 #define CARD_TABLE_BYTES(sets) (8u * (10u + 24u * (sets)))
 
 /*
@@ -163,6 +167,11 @@ uint16_t card_set_up(uint8_t *table, size_t table_len, const uint8_t *bodies, si
  *
  * A successful read of page 0Ah without Retain Asynchronous Event clears that set's events, and its entry on page 0Bh. One of page 0Bh
  * lifts the mask and drops the flag of notices.
+ *
+ * Identify shows the first CARD_SET_LIST_ENTRIES (31) sets whose identifier is at or above CDW11 15:0, rising; byte 0 counts the
+ * entries of that answer. For the others the host asks again from the last identifier plus one: asking so until a count below 31, or
+ * a last identifier of 65,535, gives each set once, in at most three answers.
+ *
  * Returns the status: CARD_OK, of an Asynchronous Event Request CARD_WAITING, or a refusal.
  */
 uint16_t card_command(uint8_t *table, size_t table_len, const uint8_t *command, size_t command_len, const uint8_t *data,

@@ -189,7 +189,7 @@ static void print_set(uint16_t set)
 /* Page 0Bh. The card lists at most its own sets, so the entries never run past the page. */
 static void print_listed(void)
 {
-    uint8_t page[72];
+    uint8_t page[CARD_AGGREGATE_BYTES];
     if (!read_log(CARD_PAGE_AGGREGATE, 0, page, sizeof page))
         return;
     uint64_t count = get_number(page, 8);
