@@ -169,8 +169,8 @@ uint16_t card_set_up(uint8_t *table, size_t table_len, const uint8_t *bodies, si
  * lifts the mask and drops the flag of notices.
  *
  * Identify shows the first CARD_SET_LIST_ENTRIES (31) sets whose identifier is at or above CDW11 15:0, rising; byte 0 counts the
- * entries of that answer. For the others the host asks again from the last identifier plus one: asking so until a count below 31, or
- * a last identifier of 65,535, gives each set once, in at most three answers.
+ * entries of that answer. For the others the host asks again from the last identifier plus one: asking so until a count below 31,
+ * or a last identifier of 65,535, gives each set once, in at most three answers.
  *
  * Returns the status: CARD_OK, of an Asynchronous Event Request CARD_WAITING, or a refusal.
  */
