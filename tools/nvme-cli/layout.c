@@ -36,19 +36,20 @@ BYTES(nvme_nvmset_predictable_lat_log, dtwin_re, 135, 128);
 BYTES(nvme_nvmset_predictable_lat_log, dtwin_we, 143, 136);
 BYTES(nvme_nvmset_predictable_lat_log, dtwin_te, 151, 144);
 
-/* page 0Bh: the entries after the count, two bytes each; with 32 of them 72 bytes */
-#define ENTRIES_0BH 32
+/* page 0Bh: the entries after the count, two bytes each; with 64 of them 136 bytes */
+#define ENTRIES_0BH 64
 SIZE(nvme_aggregate_predictable_lat_event, 8);
 BYTES(nvme_aggregate_predictable_lat_event, num_entries, 7, 0);
 BYTES(nvme_aggregate_predictable_lat_event, entries[0], 9, 8);
-BYTES(nvme_aggregate_predictable_lat_event, entries[ENTRIES_0BH - 1], 71, 70);
+BYTES(nvme_aggregate_predictable_lat_event, entries[ENTRIES_0BH - 1], 135, 134);
+_Static_assert(CARD_MAX_SETS == ENTRIES_0BH && CARD_AGGREGATE_BYTES == 136, "page 0Bh has another length in card.h");
 
 /* Identify 04h: the count, then entries of 128 bytes from byte 128 */
 SIZE(nvme_id_nvmset_list, 4096);
 SIZE(nvme_nvmset_attr, 128);
 BYTES(nvme_id_nvmset_list, nid, 0, 0);
 BYTES(nvme_id_nvmset_list, ent[0], 255, 128);
-BYTES(nvme_id_nvmset_list, ent[30], 4095, 3968);
+BYTES(nvme_id_nvmset_list, ent[CARD_SET_LIST_ENTRIES - 1], 4095, 3968);
 BYTES(nvme_nvmset_attr, nvmsetid, 1, 0);
 BYTES(nvme_nvmset_attr, endgid, 3, 2);
 BYTES(nvme_nvmset_attr, rr4kt, 11, 8);

@@ -152,7 +152,7 @@ static int ask_card(const struct nvme_passthru_cmd64 *c, uint32_t *dword0)
 /*
  * THE ONE THING THAT THE SHIM ANSWERS ITSELF, until the card does: Identify Controller (CNS 01h).
  * pred-lat-event-agg-log asks it for the maximum set identifier (NSETIDMAX, bytes 339:338), by which it reckons how much of the
- * aggregate log to read: 8 + 2 x 32 bytes are the whole page. All other bytes are zero.
+ * aggregate log to read: 8 + 2 x CARD_MAX_SETS bytes are the whole page. All other bytes are zero.
  */
 static bool is_identify_controller(const struct nvme_passthru_cmd64 *c)
 {
@@ -162,7 +162,7 @@ static bool is_identify_controller(const struct nvme_passthru_cmd64 *c)
 static int identify_controller(const struct nvme_passthru_cmd64 *c)
 {
     uint8_t page[4096] = {0};
-    put_number(page + 338, 2, 32);
+    put_number(page + 338, 2, CARD_MAX_SETS);
     memcpy((void *)(uintptr_t)c->addr, page, length_if(c, 2));
     return CARD_OK;
 }
