@@ -32,11 +32,11 @@ pub enum Item {
 pub fn bodies(random: &Random) -> Vec<u8> {
     let most = MAX_SETS as u64;
     let sets = match random.below(24) {
-        0..=2 => 1,
-        3 => most,
+        0..=1 => 1,
+        2..=3 => most,
         4 => random.pick(&[30, 31, 32, 33, 61, 62, 63]),
         5..=6 => random.between(1, most),
-        _ => random.between(1, 4),
+        _ => random.between(1, 6),
     };
     bodies_of(random, sets, random.once_in(16))
 }
