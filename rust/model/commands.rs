@@ -265,7 +265,8 @@ impl PagePart {
     }
 }
 
-/// "Identify 04h, 4,096 bytes: [...] sets with identifier at or above CDW11 15:0."; 02: "An Identify answer still holds 31 entries".
+/// 01: "Identify 04h, 4,096 bytes: [...] sets with identifier at or above CDW11 15:0." 02: "An Identify answer still holds 31
+/// entries".
 fn identify(sets: &[Set], command: &Command, room: usize) -> Outcome {
     refuse_if(command.subject() != SET_LIST, status::INVALID_FIELD)?;
     refuse_short(room, pages::IDENTIFY_BYTES)?;

@@ -54,8 +54,8 @@ pub fn list_page(sets: &[Set]) -> Vec<u8> {
     page
 }
 
-/// 01: "byte 0 count; entries of 128 bytes from byte 128, sets with identifier at or above CDW11 15:0." 02: "An Identify answer still
-/// holds 31 entries, so the host asks again from the last identifier plus one": the first 31 such sets, and byte 0 counts these.
+/// 01: "byte 0 count; entries of 128 bytes from byte 128, sets with identifier at or above CDW11 15:0." 02: "An Identify answer
+/// still holds 31 entries, so the host asks again from the last identifier plus one": the first 31 such sets, which byte 0 counts.
 pub fn identify_page(sets: &[Set], from: u16) -> Vec<u8> {
     let mut page = vec![0; IDENTIFY_BYTES];
     let wanted = sets.iter().filter(|set| set.attributes.identifier >= from);

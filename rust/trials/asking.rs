@@ -1,14 +1,14 @@
-//! A host that asks for the list of sets until it has them all. 02: "An Identify answer still holds 31 entries, so the host asks again
-//! from the last identifier plus one; show that asking so until a count below 31, or a last identifier of 65,535, gives each set
-//! once." Between two asks other items are carried out. What the answers hold, one after the other, is held to the sets of the card;
-//! beside it page 0Bh is read, of cards with many sets listed.
+//! A host that asks for the list of sets until it has them all. 02: "An Identify answer still holds 31 entries, so the host asks
+//! again from the last identifier plus one; show that asking so until a count below 31, or a last identifier of 65,535, gives each
+//! set once." Between two asks other items are carried out. What the answers hold, one after the other, is held to the sets of the
+//! card; beside it page 0Bh is read, of cards with many sets listed.
 
 use crate::calls::{Call, Outcome, Takes};
 use crate::entries::MODEL;
 use crate::holding::difference;
 use crate::random::Random;
 use crate::samples;
-use model::layout::{little_endian, read_table, table_bytes, write_table, Card, MAX_SETS};
+use model::layout::{little_endian, read_table, write_table, Card, MAX_SETS};
 use model::set::{Attributes, EXCURSION};
 use model::status;
 use std::collections::BTreeMap;
@@ -33,8 +33,8 @@ const MET: [&str; 14] = [
 
 type Counts = BTreeMap<&'static str, u64>;
 
-/// Has so many hosts ask one that takes calls. Answers whether it did what the model does, each host got just the sets that it asked
-/// for, and enough was met.
+/// Has so many hosts ask one that takes calls. Answers whether it did what the model does, each host got just the sets that it
+/// asked for, and enough was met.
 pub fn hold_asking(name: &str, taker: &mut dyn Takes, seed: u64, hosts: u64) -> bool {
     println!("{} asked for all its sets: seed {}, {} hosts", name, seed, hosts);
     let random = Random::new(seed);
@@ -167,8 +167,8 @@ impl Asked {
         met.iter().filter(|(_, holds)| *holds).for_each(|(name, _)| meet(counts, name));
     }
 
-    /// Whether the answers to the asks hold just the sets at or above the start, each once and rising, in three answers at the most,
-    /// of which each but the last has 31.
+    /// Whether the answers to the asks hold just the sets at or above the start, each once and rising, in three answers at the
+    /// most, of which each but the last has 31.
     fn hold(&self, theirs: &[Outcome]) -> Result<(), String> {
         let answers: Vec<Answer> = self.asks.iter().map(|&place| Answer::read(theirs[place].regions.answer.content())).collect();
         let joined: Vec<_> = answers.iter().flat_map(|answer| &answer.entries).cloned().collect();
@@ -200,7 +200,6 @@ fn new_card(random: &Random) -> (Card, Vec<u8>) {
         }
     }
     write_table(&mut table, &card);
-    assert_eq!(table.len(), table_bytes(card.sets.len()));
     (card, table)
 }
 
