@@ -25,7 +25,7 @@ use pages::identify::show;
 use record::SetId;
 use record::Slot;
 use table::count_of;
-use table::id_at;
+use table::id_of;
 use table::listed_word;
 use table::load;
 
@@ -35,8 +35,7 @@ fn put_next(page: &mut [u8], to: usize, table: &[u64], left: u64)
     ensures { λ _. ⌜ now (page .exit) ≡ sets (now (page .entry)) to (bytesOf listedSize (idIn (now (table .entry)) (lowestOne left))) ⌝ }
 {
     let slot = lowest(left);
-    let at = slot.0;
-    put_listed(page, to, id_at(table, at));
+    put_listed(page, to, id_of(table, slot));
 }
 
 // An entry for each one of the word of listed marks.

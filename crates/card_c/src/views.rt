@@ -26,7 +26,7 @@ use pages::identify::show;
 use record::SetId;
 use record::Slot;
 use region::count_of;
-use region::id_at;
+use region::id_of;
 use region::listed_word;
 use region::load;
 
@@ -36,8 +36,7 @@ fn put_next(page: &mut [u8], to: usize, region: &[u8], left: u64)
     ensures { λ _. ⌜ now (page .exit) ≡ sets (now (page .entry)) to (bytesOf listedSize (idIn (tableIn (now (region .entry))) (lowestOne left))) ⌝ }
 {
     let slot = lowest(left);
-    let at = slot.0;
-    put_listed(page, to, id_at(region, at));
+    put_listed(page, to, id_of(region, slot));
 }
 
 // An entry for each one of the word of listed marks.

@@ -10,6 +10,7 @@ ghost use Rattle.pages.specs.Aggregate.{lowestOne, withoutLowest, listed
 use octets::Place;
 use octets::casts::from_u32;
 use octets::casts::to_index;
+use record::SetId;
 use record::Slot;
 
 pub const AGGREGATE_SIZE: usize = 136;
@@ -49,10 +50,10 @@ pub fn count_page(word: u64) -> [u8; AGGREGATE_SIZE]
     p
 }
 
-// The entry at `to`: two bytes of an identifier.
-pub fn put_listed(page: &mut [u8], to: usize, id: u64)
+// The entry at `to`.
+pub fn put_listed(page: &mut [u8], to: usize, id: SetId)
     requires { ⌜ to + listedSize ≤ length (now page) ⌝ }
-    ensures { λ _. ⌜ now (page .exit) ≡ sets (now (page .entry)) to (bytesOf listedSize id) ⌝ }
+    ensures { λ _. ⌜ now (page .exit) ≡ sets (now (page .entry)) to (bytesOf listedSize (id .0)) ⌝ }
 {
-    octets::put(page, to, LISTED_SIZE, id);
+    octets::put(page, to, LISTED_SIZE, id.0 as u64);
 }

@@ -229,11 +229,20 @@ pub fn legal(bytes: &[u8]) -> bool
 }
 
 // The identifier's word of a slot.
-pub fn id_at(bytes: &[u8], slot: usize) -> u64
+fn id_at(bytes: &[u8], slot: usize) -> u64
     requires { ⌜ rowStart (slot + 1) ≤ length (now bytes) / wordSize ⌝ }
     ensures { λ r. ⌜ r ≡ getD (tableIn (now (bytes .entry))) (rowStart slot) 0 ⌝ }
 {
     word_of(bytes, HEADER + slot * ROW)
+}
+
+// The identifier of the set in a slot.
+pub fn id_of(bytes: &[u8], slot: Slot) -> SetId
+    requires { ⌜ rowStart (slot .0 + 1) ≤ length (now bytes) / wordSize ⌝ }
+    ensures { λ r. ⌜ r .0 ≡ idOf (recordAt (now (bytes .entry)) (slot .0)) ⌝ }
+{
+    let i = slot.0;
+    SetId((id_at(bytes, i) % 65536) as u16)
 }
 
 pub fn find(bytes: &[u8], id: SetId) -> Found

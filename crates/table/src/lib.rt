@@ -6,9 +6,10 @@ pub mod legal_words;
 ghost use mathlib.Core.Path.{_≡_};
 ghost use mathlib.Core.Bool.{false};
 ghost use Prim.Native.Nat.{_+_, _*_, _<_, _≤_};
-ghost use lib.ListN.{length, getD};
+ghost use lib.ListN.{length};
 ghost use lib.Seq.{sets};
 ghost use Rattle.table.specs.Layout.{wordsOf, recordOf};
+ghost use Rattle.record.specs.Parts.{idOf};
 ghost use Rattle.desk.specs.Desk.{queued, turned, lifted, settle, requestsMaximum};
 ghost use Rattle.table.specs.Card.{headerWords, deskStart};
 ghost use Rattle.table.specs.Table.{deskPart, deskAt, withDesk, DeskThere, Tells, count, rowStart, row, rows, put, extentOf, sized, legalRows, legalTable, Legal, recordsOf, findIn, enterIn, listedWord};
@@ -212,12 +213,13 @@ pub fn legal(table: &[u64]) -> bool
     false
 }
 
-// The identifier's word of a slot.
-pub fn id_at(table: &[u64], slot: usize) -> u64
-    requires { ⌜ rowStart (slot + 1) ≤ length (now table) ⌝ }
-    ensures { λ r. ⌜ r ≡ getD (now (table .entry)) (rowStart slot) 0 ⌝ }
+// The identifier of the set in a slot.
+pub fn id_of(table: &[u64], slot: Slot) -> SetId
+    requires { ⌜ rowStart (slot .0 + 1) ≤ length (now table) ⌝ }
+    ensures { λ r. ⌜ r .0 ≡ idOf (recordOf (row (now (table .entry)) (slot .0))) ⌝ }
 {
-    table[HEADER + slot * ROW]
+    let i = slot.0;
+    SetId((table[HEADER + i * ROW] % 65536) as u16)
 }
 
 pub fn find(table: &[u64], id: SetId) -> Found

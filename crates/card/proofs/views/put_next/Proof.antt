@@ -2,10 +2,11 @@ use mathlib.Core.Path.{ap, _∙_}
 use Prim.Native.Nat.{ℕ}
 use native.Mathlib.Omega.{arith}
 use borrow.Author.Needs.{needs}
-use lib.ListN.{getD}
 use lib.Seq.{sets}
 use Rattle.octets.specs.Octets.{bytesOf}
-use Rattle.table.specs.Table.{rowStart}
+use Rattle.record.specs.Parts.{idOf}
+use Rattle.table.specs.Layout.{recordOf}
+use Rattle.table.specs.Table.{row}
 use Rattle.table.proofs.Turns.{ids-at}
 use Rattle.pages.specs.Aggregate.{listedSize}
 use Rattle.card.proofs.views.put_next.Statement.{statement}
@@ -28,4 +29,4 @@ put-next-spec =
     let s = slot .before .before .before in
     put .put-listed .ensures
     ∙ ap (λ (n : ℕ). sets (s .args .page .now) (s .args .to) (bytesOf listedSize n))
-    (id .id-at .ensures ∙ ap (λ (k : ℕ). getD (s .args .table .now) (rowStart k) 0) (slot .lowest .ensures) ∙ ids-at (s .args .table .now) (s .pre .0) _ (s .pre .1))))
+    (id .id-of .ensures ∙ ap (λ (k : ℕ). idOf (recordOf (row (s .args .table .now) k))) (slot .lowest .ensures) ∙ ids-at (s .args .table .now) _ (s .pre .1))))

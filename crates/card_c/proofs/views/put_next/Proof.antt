@@ -2,10 +2,11 @@ use mathlib.Core.Path.{ap, _∙_}
 use Prim.Native.Nat.{ℕ}
 use native.Mathlib.Omega.{arith}
 use borrow.Author.Needs.{needs}
-use lib.ListN.{getD}
 use lib.Seq.{sets}
 use Rattle.octets.specs.Octets.{bytesOf}
-use Rattle.table.specs.Table.{rowStart}
+use Rattle.record.specs.Parts.{idOf}
+use Rattle.table.specs.Layout.{recordOf}
+use Rattle.table.specs.Table.{row}
 use Rattle.table.proofs.Turns.{ids-at}
 use Rattle.pages.specs.Aggregate.{listedSize}
 use Rattle.region.specs.Region.{tableIn}
@@ -30,4 +31,4 @@ put-next-spec =
     let s = slot .before .before .before in
     put .put-listed .ensures
     ∙ ap (λ (n : ℕ). sets (s .args .page .now) (s .args .to) (bytesOf listedSize n))
-    (id .id-at .ensures ∙ ap (λ (k : ℕ). getD (tableIn (s .args .region .now)) (rowStart k) 0) (slot .lowest .ensures) ∙ ids-at (tableIn (s .args .region .now)) (s .pre .0) _ (s .pre .1))))
+    (id .id-of .ensures ∙ ap (λ (k : ℕ). idOf (recordOf (row (tableIn (s .args .region .now)) k))) (slot .lowest .ensures) ∙ ids-at (tableIn (s .args .region .now)) _ (s .pre .1))))
