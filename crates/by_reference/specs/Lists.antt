@@ -21,7 +21,8 @@ bodiesOf (a ∷ list) = body a ++ bodiesOf list
 abbrev pub TheirOwn : Type 0
 TheirOwn = (list : List Attributes) → AllSized list → newSets (bodiesOf list) ≡ map newRecord list
 
--- "number of sets .. wrong 07C4h", "nothing written": of a list that is too long, though not all of its bodies are made
+-- "number of sets .. wrong 07C4h", "nothing written", and 02: "Set-up refuses 65 with 07C4h.": of a list that is too long, though not all
+-- of its bodies are made
 abbrev pub TooMany : Type 0
 TooMany =
     (list : List Attributes) (ws after : List ℕ) (number : ℕ) → maxSets < length list → SetUp (bodiesOf list) ws after number

@@ -20,8 +20,8 @@ use Rattle.pages.specs.Aggregate.{listedBy, firstListed, entriesFrom, countPage
 use Rattle.pages.specs.Identify.{identifySize, entrySize, firstEntry, Shows}
 use Rattle.pages.proofs.Listed.{word-below, one-word, page-is}
 use Rattle.pages.proofs.Entries.{Showing, show-start, show-room, show-turn, show-end, show-full}
-use Rattle.steps.specs.Commanded.{listedIds}
-use Rattle.by_value.specs.Views.{attributesOf, ShowsAll}
+use Rattle.steps.specs.Commanded.{listedIds, attributesOf}
+use Rattle.by_value.specs.Views.{ShowsAll}
 
 -- ---- 0Bh
 

@@ -9,8 +9,8 @@ ghost use Rattle.table.specs.Layout.{recordOf};
 ghost use Rattle.table.specs.Table.{count, rowStart, row, recordsOf, listedWord, Legal};
 ghost use Rattle.pages.specs.Aggregate.{lowestOne, aggregateSize, firstListed, listedSize, entriesFrom, aggregatePage};
 ghost use Rattle.pages.specs.Identify.{entrySize, identifySize, identifyPage, Shows};
-ghost use Rattle.steps.specs.Commanded.{listedIds};
-ghost use Rattle.by_value.specs.Views.{idIn, attributesOf, ShowsAll};
+ghost use Rattle.steps.specs.Commanded.{listedIds, attributesOf};
+ghost use Rattle.by_value.specs.Views.{idAtSlot, ShowsAll};
 use pages::aggregate::AGGREGATE_SIZE;
 use pages::aggregate::FIRST_LISTED;
 use pages::aggregate::LISTED_SIZE;
@@ -32,7 +32,7 @@ use table::load;
 // The entry of the word's lowest one: "the next entry its lowest one".
 fn put_next(page: &mut [u8], to: usize, table: &[u64], left: u64)
     requires { ⌜ Legal (now table) × (lowestOne left < count (now table)) × (to + listedSize ≤ length (now page)) ⌝ }
-    ensures { λ _. ⌜ now (page .exit) ≡ sets (now (page .entry)) to (bytesOf listedSize (idIn (now (table .entry)) (lowestOne left))) ⌝ }
+    ensures { λ _. ⌜ now (page .exit) ≡ sets (now (page .entry)) to (bytesOf listedSize (idAtSlot (now (table .entry)) (lowestOne left))) ⌝ }
 {
     let slot = lowest(left);
     put_listed(page, to, id_of(table, slot));
@@ -72,7 +72,7 @@ fn show_slot(page: &mut [u8], to: usize, table: &[u64], slot: Slot, from: SetId)
     show(page, to, a, from)
 }
 
-// The sets of one answer: it ends with the last of them, or with the page.
+// The sets of one answer, until none is left or the page is full.
 fn show_all(page: &mut [u8], table: &[u64], from: SetId) -> usize
     requires { ⌜ Legal (now table) × (identifySize ≤ length (now page)) ⌝ }
     ensures { λ r. ⌜ ShowsAll (from .0) (attributesOf (recordsOf (now (table .entry)))) (now (page .entry)) (now (page .exit)) r ⌝ }

@@ -9,9 +9,9 @@ ghost use Rattle.table.specs.Table.{count, rowStart, recordsOf, listedWord, Leg
 ghost use Rattle.pages.specs.Aggregate.{lowestOne, aggregateSize, firstListed, listedSize, entriesFrom, aggregatePage};
 ghost use Rattle.pages.specs.Identify.{entrySize, identifySize, identifyPage, Shows};
 ghost use Rattle.region.specs.Region.{tableIn, recordAt};
-ghost use Rattle.steps.specs.Commanded.{listedIds};
+ghost use Rattle.steps.specs.Commanded.{listedIds, attributesOf};
 ghost use Rattle.octets.specs.Words.{wordSize};
-ghost use Rattle.by_value.specs.Views.{idIn, attributesOf, ShowsAll};
+ghost use Rattle.by_value.specs.Views.{idAtSlot, ShowsAll};
 use pages::aggregate::AGGREGATE_SIZE;
 use pages::aggregate::FIRST_LISTED;
 use pages::aggregate::LISTED_SIZE;
@@ -33,7 +33,7 @@ use region::load;
 // The entry of the word's lowest one: "the next entry its lowest one".
 fn put_next(page: &mut [u8], to: usize, region: &[u8], left: u64)
     requires { ⌜ Legal (tableIn (now region)) × (lowestOne left < count (tableIn (now region))) × (to + listedSize ≤ length (now page)) ⌝ }
-    ensures { λ _. ⌜ now (page .exit) ≡ sets (now (page .entry)) to (bytesOf listedSize (idIn (tableIn (now (region .entry))) (lowestOne left))) ⌝ }
+    ensures { λ _. ⌜ now (page .exit) ≡ sets (now (page .entry)) to (bytesOf listedSize (idAtSlot (tableIn (now (region .entry))) (lowestOne left))) ⌝ }
 {
     let slot = lowest(left);
     put_listed(page, to, id_of(region, slot));
@@ -73,7 +73,7 @@ fn show_slot(page: &mut [u8], to: usize, region: &[u8], slot: Slot, from: SetId)
     show(page, to, a, from)
 }
 
-// The sets of one answer: it ends with the last of them, or with the page.
+// The sets of one answer, until none is left or the page is full.
 fn show_all(page: &mut [u8], region: &[u8], from: SetId) -> usize
     requires { ⌜ Legal (tableIn (now region)) × (identifySize ≤ length (now page)) ⌝ }
     ensures { λ r. ⌜ ShowsAll (from .0) (attributesOf (recordsOf (tableIn (now (region .entry))))) (now (page .entry)) (now (page .exit)) r ⌝ }

@@ -13,7 +13,7 @@ use Rattle.steps.proofs.FirmPromises.{one-set-up, one-answer, one-handed}
 use Rattle.steps.proofs.HeldWords.{words-demand, part-demand}
 use Rattle.steps.proofs.IdleRefuted.{not-refusing-all, not-alike, not-still, not-first-only, marks-counted, ones-counted, lowest-first}
 use Rattle.steps.proofs.NamedItems.{named-items}
-use Rattle.steps.proofs.Asking.{asking-gives, each-set-once}
+use Rattle.steps.proofs.Asking.{asking-gives, ask-answered, each-set-once}
 use Rattle.steps.proofs.NoticeCases.{cases-hold, notices-move, swap-asks}
 use Rattle.steps.proofs.Notices.{card-kept, sent-only, held-else, in-turn, no-listing-unheard, served-at-once, woken, one-at-most, only-set-turns, notices-stored}
 use Rattle.steps.proofs.OnWords.{refused, refused-words, words-run, words-trace, words-notices, words-swap}
@@ -92,6 +92,7 @@ claim =
       one-at-most = one-at-most;
       cases-hold = cases-hold;
       asking-gives = asking-gives;
+      ask-answered = ask-answered;
       each-set-once = each-set-once;
       words-stay = words-stay;
       words-run = words-run;

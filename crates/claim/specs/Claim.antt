@@ -102,8 +102,9 @@ pub record Claim : Type 0 where
   -- each of its sentences on one item
   pub cases-hold : told.CasesHold
   -- ==== 02, "Sixty-four sessions": Identify asked again, on the card
-  -- any items, where the asks among them follow each other so; and a host that asks so
+  -- any items, where the asks of a host among them follow each other so; no ask is refused; and a host that asks so
   pub asking-gives : asking.AskingGives
+  pub ask-answered : asking.AskAnswered
   pub each-set-once : asking.EachSetOnce
   -- ==== on the lent words
   -- a run over words is the card's

@@ -20,7 +20,7 @@ use Rattle.record.specs.declared.Attributes.{Attributes}
 use Rattle.record.specs.Legal.{numberMaximum}
 use Rattle.table.specs.Table.{maxSets}
 use Rattle.pages.specs.Identify.{identifySize, entrySize, firstEntry, identifyEntries, shownIf, shown, inOneAnswer, entryPlaces, entryValues, entryFields, entryPage, entriesAt, identifyFields, identifyPage}
-use Rattle.pages.specs.Asking.{countIn, entriesFrom, entriesIn, idIn, lastIn, isLast, Ask, asksFrom, through, gathered, EachOnce, asksMost, GivesEach}
+use Rattle.pages.specs.Asking.{countIn, readEntries, entriesIn, idIn, lastIn, nextIn, isLast, Ask, asksFrom, through, gathered, EachOnce, asksMost, GivesEach}
 use Rattle.pages.proofs.Entries.{one-tidy, entries-tidy}
 
 abbrev pub idsOf : List Attributes → List ℕ
@@ -121,7 +121,7 @@ abbrev Blank : List ℕ → ℕ → Type 0
 Blank l to = (d : ℕ) → to ≤ d → d + entrySize ≤ length l → part l d entrySize ≡ replicate entrySize 0
 
 entries-back : (xs : List Attributes) (l : List ℕ) (to : ℕ) → to + entrySize * length xs ≤ length l → Blank l to
-    → entriesFrom (puts l (entriesAt to xs)) to (length xs) ≡ map entryPage xs
+    → readEntries (puts l (entriesAt to xs)) to (length xs) ≡ map entryPage xs
 entries-back [] l to h z = refl
 entries-back (a ∷ xs) l to h z =
     let l′ : List ℕ = puts l (entryFields to a) in
@@ -164,7 +164,7 @@ ids-taken zero xs = refl
 ids-taken (suc n) [] = refl
 ids-taken (suc n) (a ∷ xs) = ap (_∷_ (a .id .0)) (ids-taken n xs)
 
-same-entries : (answer page : List ℕ) → Reads answer page → (to n : ℕ) → to + entrySize * n ≤ identifySize → entriesFrom answer to n ≡ entriesFrom page to n
+same-entries : (answer page : List ℕ) → Reads answer page → (to n : ℕ) → to + entrySize * n ≤ identifySize → readEntries answer to n ≡ readEntries page to n
 same-entries answer page r to zero h = refl
 same-entries answer page r to (suc n) h = ap₂ _∷_ (r to entrySize (omega arith)) (same-entries answer page r (to + entrySize) n (omega arith))
 
@@ -196,7 +196,7 @@ module _ (all : List Attributes) (from : ℕ) (o : Ordered 0 all) where
       (ap numberOf (puts-before (entriesAt firstEntry one) counted 1 identifySize 0 1 (entries-tidy one firstEntry 1 identifySize (omega arith) (omega (arith, one-few))) (omega arith))
       ∙ get-put (replicate identifySize 0) 0 1 (length one) (omega (arith, length-replicate {A = ℕ} identifySize 0)) (omega (arith, one-few)))
 
-  page-entries : entriesFrom (identifyPage from all) firstEntry (length one) ≡ map entryPage one
+  page-entries : readEntries (identifyPage from all) firstEntry (length one) ≡ map entryPage one
   page-entries =
       rw page-is
       (entries-back one counted firstEntry (omega (arith, one-few, counted-long))
@@ -210,7 +210,7 @@ module _ (all : List Attributes) (from : ℕ) (o : Ordered 0 all) where
 
     pub entries-are : entriesIn answer ≡ map entryPage one
     entries-are =
-        ap (entriesFrom answer firstEntry) count-is ∙ same-entries answer (identifyPage from all) r firstEntry (length one) (omega (arith, one-few)) ∙ page-entries
+        ap (readEntries answer firstEntry) count-is ∙ same-entries answer (identifyPage from all) r firstEntry (length one) (omega (arith, one-few)) ∙ page-entries
 
     -- a full answer
     module _ (full : identifyEntries ≤ length listed) where
@@ -225,7 +225,7 @@ module _ (all : List Attributes) (from : ℕ) (o : Ordered 0 all) where
           ∙ getD-take identifyEntries (idsOf listed) (identifyEntries - 1) 0 (omega arith))
 
       -- what is asked for next is what this answer has left out
-      pub next-is : shown (lastIn answer + 1) all ≡ drop identifyEntries listed
+      pub next-is : shown (nextIn answer) all ≡ drop identifyEntries listed
       next-is =
           let least = shown-least from all (identifyEntries - 1) (omega (arith, full)) in
           rw last-is
@@ -238,7 +238,7 @@ module _ (all : List Attributes) (from : ℕ) (o : Ordered 0 all) where
         omega (arith, count-is, length-take identifyEntries listed)
 
     -- so there is a number left to ask from
-    pub last-small : isLast answer ≡ false → lastIn answer + 1 ≤ numberMaximum
+    pub last-small : isLast answer ≡ false → nextIn answer ≤ numberMaximum
     last-small e =
         let full = not-last e in
         let small = below-nth 0 listed (identifyEntries - 1) (shown-ordered from 0 all o) (omega (arith, full)) in
@@ -254,7 +254,7 @@ module _ (all : List Attributes) (from : ℕ) (o : Ordered 0 all) where
         let k : identifyEntries ≤ countIn answer = ltb-false (countIn answer) identifyEntries e in
         let full : identifyEntries ≤ length listed = omega (arith, count-is, length-take identifyEntries listed) in
         let top : lastIn answer ≡ numberMaximum = eqb-true (lastIn answer) numberMaximum h in
-        let none : drop identifyEntries listed ≡ [] = sym (next-is full) ∙ shown-none (lastIn answer + 1) 0 all o (omega (arith, top)) in
+        let none : drop identifyEntries listed ≡ [] = sym (next-is full) ∙ shown-none (nextIn answer) 0 all o (omega (arith, top)) in
         sym (append-nil one) ∙ ap (λ (l : List Attributes). one ++ l) (sym none) ∙ take-append-drop identifyEntries listed
 
     pub all-read : isLast answer ≡ true → entriesIn answer ≡ map entryPage listed
@@ -274,7 +274,7 @@ Answers all (a ∷ more) = Reads (a .answer) (identifyPage (a .from) all) × Ans
 module _ (all : List Attributes) (o : Ordered 0 all) where
   -- a full answer is followed by what it has left out
   module _ (from : ℕ) (a b : Ask) (more : List Ask) (h : asksFrom from (a ∷ b ∷ more) ≡ true) (r : Reads (a .answer) (identifyPage (a .from) all)) where
-    tests : (eqb (a .from) from ≡ true) × (not (isLast (a .answer)) ≡ true) × (asksFrom (lastIn (a .answer) + 1) (b ∷ more) ≡ true)
+    tests : (eqb (a .from) from ≡ true) × (not (isLast (a .answer)) ≡ true) × (asksFrom (nextIn (a .answer)) (b ∷ more) ≡ true)
     tests =
         let t = both (eqb (a .from) from && not (isLast (a .answer))) _ h in
         let u = both (eqb (a .from) from) _ (t .0) in
@@ -286,10 +286,10 @@ module _ (all : List Attributes) (o : Ordered 0 all) where
     full : identifyEntries ≤ length (shown from all)
     full = not-last all from o (a .answer) read (not-true _ (tests .1))
 
-    next : shown (lastIn (a .answer) + 1) all ≡ drop identifyEntries (shown from all)
+    next : shown (nextIn (a .answer)) all ≡ drop identifyEntries (shown from all)
     next = next-is all from o (a .answer) read full
 
-    next-long : length (shown (lastIn (a .answer) + 1) all) + identifyEntries ≡ length (shown from all)
+    next-long : length (shown (nextIn (a .answer)) all) + identifyEntries ≡ length (shown from all)
     next-long = omega (arith, ap length next, length-drop identifyEntries (shown from all), full)
 
   -- asks after which there is more to ask for: so many full answers
@@ -297,14 +297,14 @@ module _ (all : List Attributes) (o : Ordered 0 all) where
   going from [] h r t = omega arith
   going from (a ∷ []) h r t = not-last all from o (a .answer) (rw (eqb-true (a .from) from h) at (r .0)) t
   going from (a ∷ b ∷ more) h r t =
-      let ih = going (lastIn (a .answer) + 1) (b ∷ more) (tests from a b more h (r .0) .2) (r .1) t in
+      let ih = going (nextIn (a .answer)) (b ∷ more) (tests from a b more h (r .0) .2) (r .1) t in
       omega (arith, ih, next-long from a b more h (r .0))
 
   -- and one more ask
   asked : (from : ℕ) (a : Ask) (more : List Ask) → asksFrom from (a ∷ more) ≡ true → Answers all (a ∷ more) → identifyEntries * length more ≤ length (shown from all)
   asked from a [] h r = omega arith
   asked from a (b ∷ more) h r =
-      let ih = asked (lastIn (a .answer) + 1) b more (tests from a b more h (r .0) .2) (r .1) in
+      let ih = asked (nextIn (a .answer)) b more (tests from a b more h (r .0) .2) (r .1) in
       omega (arith, ih, next-long from a b more h (r .0))
 
   -- all that is gathered, where the last answer has come
@@ -314,7 +314,7 @@ module _ (all : List Attributes) (o : Ordered 0 all) where
   gathers from (a ∷ b ∷ more) h r t =
       ap₂ _++_
       (entries-are all from o (a .answer) (read from a b more h (r .0)))
-      (gathers (lastIn (a .answer) + 1) (b ∷ more) (tests from a b more h (r .0) .2) (r .1) t ∙ ap (map entryPage) (next from a b more h (r .0)))
+      (gathers (nextIn (a .answer)) (b ∷ more) (tests from a b more h (r .0) .2) (r .1) t ∙ ap (map entryPage) (next from a b more h (r .0)))
       ∙ sym (map-more (take identifyEntries (shown from all)) (drop identifyEntries (shown from all)))
       ∙ ap (map entryPage) (take-append-drop identifyEntries (shown from all))
 

@@ -58,7 +58,7 @@ NextIsLowest =
 
 -- ---- the page
 
--- 01: "0Bh, 72 bytes", amended by 02: "Page 0Bh becomes 136 bytes."
+-- 01: "0Bh, 72 bytes", amended by 02: "Page 0Bh becomes 136 bytes.": 8 + 2 x 64, so that every set may be listed
 abbrev pub aggregateSize : ℕ
 aggregateSize = 136
 

@@ -5,7 +5,7 @@
 use mathlib.Core.Path.{_≡_}
 use mathlib.Core.Bool.{Bool, true, false, not, _&&_, _||_}
 use mathlib.Core.List.{List, [], _∷_, _++_, map}
-use Prim.Native.Nat.{ℕ, zero, suc, _+_, _-_, _≤_}
+use Prim.Native.Nat.{ℕ, zero, suc, _+_, _-_, _/_, _≤_}
 use lib.Dec.{eqb, ltb}
 use lib.ListN.{length, getD}
 use Rattle.octets.specs.Lists.{Rising}
@@ -13,6 +13,7 @@ use Rattle.octets.specs.Octets.{part}
 use Rattle.octets.specs.Pages.{readAt}
 use Rattle.record.specs.declared.Attributes.{Attributes}
 use Rattle.record.specs.Legal.{numberMaximum}
+use Rattle.table.specs.Table.{maxSets}
 use Rattle.pages.specs.Identify.{identifyEntries, identifyCount, firstEntry, entrySize, entryId, entryPage, shown}
 
 -- ---- one answer
@@ -22,12 +23,12 @@ abbrev pub countIn : List ℕ → ℕ
 countIn answer = readAt answer 0 identifyCount
 
 -- so many entries from a place on, 128 bytes each; and as many as it counts
-abbrev pub entriesFrom : List ℕ → ℕ → ℕ → List (List ℕ)
-entriesFrom answer to zero = []
-entriesFrom answer to (suc n) = part answer to entrySize ∷ entriesFrom answer (to + entrySize) n
+abbrev pub readEntries : List ℕ → ℕ → ℕ → List (List ℕ)
+readEntries answer to zero = []
+readEntries answer to (suc n) = part answer to entrySize ∷ readEntries answer (to + entrySize) n
 
 abbrev pub entriesIn : List ℕ → List (List ℕ)
-entriesIn answer = entriesFrom answer firstEntry (countIn answer)
+entriesIn answer = readEntries answer firstEntry (countIn answer)
 
 -- the identifier of an entry; "the last identifier"
 abbrev pub idIn : List ℕ → ℕ
@@ -35,6 +36,10 @@ idIn entry = readAt entry 0 entryId
 
 abbrev pub lastIn : List ℕ → ℕ
 lastIn answer = idIn (getD (entriesIn answer) (countIn answer - 1) [])
+
+-- "the last identifier plus one"
+abbrev pub nextIn : List ℕ → ℕ
+nextIn answer = lastIn answer + 1
 
 -- "until a count below 31, or a last identifier of 65,535"
 abbrev pub isLast : List ℕ → Bool
@@ -47,11 +52,11 @@ pub record Ask : Type 0 where
   pub from : ℕ
   pub answer : List ℕ
 
--- the first ask is from a number, and each other "from the last identifier plus one" of an answer that was not the last
+-- the first ask is from a number, and each other "from the last identifier plus one" of the answer before it, which was not the last
 abbrev pub asksFrom : ℕ → List Ask → Bool
 asksFrom from [] = true
 asksFrom from (a ∷ []) = eqb (a .from) from
-asksFrom from (a ∷ b ∷ more) = eqb (a .from) from && not (isLast (a .answer)) && asksFrom (lastIn (a .answer) + 1) (b ∷ more)
+asksFrom from (a ∷ b ∷ more) = eqb (a .from) from && not (isLast (a .answer)) && asksFrom (nextIn (a .answer)) (b ∷ more)
 
 -- the host is through: it has the last answer
 abbrev pub through : List Ask → Bool
@@ -66,16 +71,16 @@ gathered (a ∷ more) = entriesIn (a .answer) ++ gathered more
 
 -- ---- what is to be shown
 
--- "gives each set once": every byte of the entry of each set at or above the start, rising, so none twice; from 0 or 1 of all sets, since no
--- identifier is 0
+-- "gives each set once": the entry, byte for byte, of each set at or above the start, rising, so that none comes twice. No identifier is
+-- 0, so that a start of 0 or 1 gives all sets.
 pub record EachOnce (sets : List Attributes) (from : ℕ) (entries : List (List ℕ)) : Type 0 where
   pub those : entries ≡ map entryPage (shown from sets)
   pub rising : Rising 0 (map idIn entries)
   pub all : from ≤ 1 → entries ≡ map entryPage sets
 
--- so many asks are enough for 64 sets, 31 to an answer
+-- three asks are enough: as many as there are full answers of 64 sets, and one more, which may have no entry
 abbrev pub asksMost : ℕ
-asksMost = 3
+asksMost = maxSets / identifyEntries + 1
 
 -- asks, one after another: they come to an end, and then have given each set once
 pub record GivesEach (sets : List Attributes) (from : ℕ) (asks : List Ask) : Type 0 where

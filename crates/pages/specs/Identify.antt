@@ -1,4 +1,4 @@
--- 01, "Commands": Identify 04h, the NVM Set List.
+-- 01, "Commands", and 02, "Sixty-four sessions": Identify 04h, the NVM Set List.
 use mathlib.Core.Path.{_≡_}
 use mathlib.Core.Bool.{Bool}
 use mathlib.Core.List.{List, [], _∷_, _++_}
@@ -38,7 +38,7 @@ abbrev pub shown : ℕ → List Attributes → List Attributes
 shown from [] = []
 shown from (a ∷ others) = shownIf (leb from (a .id .0)) a (shown from others)
 
--- of those the first, as many as one answer holds
+-- 01: "sets with identifier at or above CDW11 15:0", amended by 02: "An Identify answer still holds 31 entries": of those the first
 abbrev pub inOneAnswer : ℕ → List Attributes → List Attributes
 inOneAnswer from sets = take identifyEntries (shown from sets)
 
@@ -87,7 +87,7 @@ abbrev pub entriesAt : ℕ → List Attributes → List Field
 entriesAt to [] = []
 entriesAt to (a ∷ others) = entryFields to a ++ entriesAt (to + entrySize) others
 
--- "byte 0 count; entries of 128 bytes from byte 128"
+-- "byte 0 count; entries of 128 bytes from byte 128": the count of this answer's entries, not of all sets at or above
 abbrev pub identifyCount : Place
 identifyCount = span 0 1
 

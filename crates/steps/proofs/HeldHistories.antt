@@ -28,10 +28,13 @@ use Rattle.steps.specs.Rows.{carriedOut}
 use Rattle.steps.specs.Words.{cardOf, stepWords}
 use Rattle.steps.specs.Demands.{configures, noneConfigures, windowOf, noneMoves, runWords, traceWords, toldWords}
 use Rattle.steps.specs.Notices.{legalCard, acceptedBy, accepted, readsListed, lifts, noneLifts, listsSome, turnsNotices, noneTurns}
-use Rattle.steps.specs.Holders.{Holder, Called, History, last, items, lents, backs, shown, shownWith, naming, StaysLegal, OwnRecords, OwnAnswersBack, AggregateBack, NeverLost, SwapsBack, noneDone, noneMoved, ConfigBack, WindowBack, NoticesBack, allHear, noticesTold, acceptedCalls, liftsCall, noneLiftCalls, listsSomeCall, deskHeld, InTurnBack, SentBack, ElseBack, HeardBack, ServedBack, WokenBack, OneBack, asksOf, GivesEachBack, Demanded, Steps}
-use Rattle.steps.specs.Asking.{askIn, attributes}
+use Rattle.steps.specs.Holders.{Holder, Called, History, last, items, lents, backs, shown, shownWith, naming, StaysLegal, OwnRecords, OwnAnswersBack, AggregateBack, NeverLost, SwapsBack, noneDone, noneMoved, ConfigBack, WindowBack, NoticesBack, allHear, noticesTold, acceptedCalls, liftsCall, noneLiftCalls, listsSomeCall, deskHeld, InTurnBack, SentBack, ElseBack, HeardBack, ServedBack, WokenBack, OneBack, asksOf, GivesEachBack, AskAnsweredBack, Demanded, Steps}
+use Rattle.octets.specs.Choice.{if_then_else_}
+use Rattle.pages.specs.Asking.{Ask}
+use Rattle.steps.specs.Commanded.{attributesOf}
+use Rattle.steps.specs.Asking.{askIn}
 use Rattle.pages.proofs.Asking.{Answers, gives-each}
-use Rattle.steps.proofs.Asking.{attributes-kept, sets-ordered, ask-answered, both-answered}
+use Rattle.steps.proofs.Asking.{attributes-kept, sets-ordered, ask-reads, both-answered, mine-answered, ask-answered}
 use Rattle.steps.proofs.ItemShapes.{bool-cases}
 use Rattle.steps.proofs.KeptLegal.{step-keeps, step-back}
 use Rattle.steps.proofs.AtDesk.{notice-small}
@@ -414,31 +417,39 @@ module _ (H : Holder) (S : Steps H) where
 
   -- asking again: of each call, what is read off its bytes is its answer's, and no call changes a set's attributes
   attributes-next : (h : H .Held) (c : Called H) (cs : List (Called H)) → legalTable (H .words h) ≡ true → History H h (c ∷ cs)
-      → attributes (cardOf (H .words (c .held))) ≡ attributes (cardOf (H .words h))
-  attributes-next h c cs e u = ap attributes (card-one h c e (u .0)) ∙ attributes-kept (cardOf (H .words h)) (H .item (c .lent))
+      → attributesOf (recordsOf (H .words (c .held))) ≡ attributesOf (recordsOf (H .words h))
+  attributes-next h c cs e u = ap (λ (x : Card). attributesOf (x .sets)) (card-one h c e (u .0)) ∙ attributes-kept (cardOf (H .words h)) (H .item (c .lent))
 
   ask-back : (h : H .Held) (c : Called H) → legalTable (H .words h) ≡ true → H .Call h (c .lent) (c .back) (c .held)
-      → Answers (attributes (cardOf (H .words h))) (askIn (H .item (c .lent)) (H .status (c .back)) (H .came (c .back)))
+      → Answers (attributesOf (recordsOf (H .words h))) (askIn (H .item (c .lent)) (H .status (c .back)) (H .came (c .back)))
   ask-back h c e u =
       let a : stepWords (H .words h) (H .item (c .lent)) .answer ≡ answer (cardOf (H .words h)) (H .item (c .lent)) = answer-words (H .words h) (H .item (c .lent)) e in
       let s : H .status (c .back) ≡ answer (cardOf (H .words h)) (H .item (c .lent)) .status = ap (H .status) (S .said h (c .lent) (c .back) (c .held) u) ∙ S .told (c .lent) _ _ ∙ ap (λ (x : Answer). x .status) a in
       rw s
-      (ask-answered (cardOf (H .words h)) (H .item (c .lent)) (H .came (c .back)) (rw a at (S .seen h (c .lent) (c .back) (c .held) u)))
+      (ask-reads (cardOf (H .words h)) (H .item (c .lent)) (H .came (c .back)) (rw a at (S .seen h (c .lent) (c .back) (c .held) u)))
 
-  asks-back : (all : List Attributes) (h : H .Held) (cs : List (Called H)) → legalTable (H .words h) ≡ true → History H h cs
-      → attributes (cardOf (H .words h)) ≡ all → Answers all (asksOf H cs)
-  asks-back all h [] e u q = tt
-  asks-back all h (c ∷ cs) e u q =
-      both-answered all (askIn (H .item (c .lent)) (H .status (c .back)) (H .came (c .back))) (asksOf H cs)
-      (rw q at (ask-back h c e (u .0)))
-      (asks-back all (c .held) cs (legal-next h c cs e u) (u .1) (attributes-next h c cs e u ∙ q))
+  asks-back : (all : List Attributes) (mine : H .Lent → Bool) (h : H .Held) (cs : List (Called H)) → legalTable (H .words h) ≡ true → History H h cs
+      → attributesOf (recordsOf (H .words h)) ≡ all → Answers all (asksOf H mine cs)
+  asks-back all mine h [] e u q = tt
+  asks-back all mine h (c ∷ cs) e u q =
+      let own : List Ask = askIn (H .item (c .lent)) (H .status (c .back)) (H .came (c .back)) in
+      both-answered all (if mine (c .lent) then own else []) (asksOf H mine cs)
+      (mine-answered all (mine (c .lent)) own (rw q at (ask-back h c e (u .0))))
+      (asks-back all mine (c .held) cs (legal-next h c cs e u) (u .1) (attributes-next h c cs e u ∙ q))
 
   pub gives-each-back : GivesEachBack H
-  gives-each-back h cs from e u t =
+  gives-each-back mine h cs from e u t =
       let l = legal-known (H .words h) e in
-      let few : length (attributes (cardOf (H .words h))) ≤ maxSets = simp length-map (omega (arith, length-records (H .words h), l .few)) in
-      gives-each (attributes (cardOf (H .words h))) (sets-ordered 0 (recordsOf (H .words h)) (sets-known (H .words h) l)) from (asksOf H cs) few t
-      (asks-back (attributes (cardOf (H .words h))) h cs e u refl)
+      let few : length (attributesOf (recordsOf (H .words h))) ≤ maxSets = simp length-map (omega (arith, length-records (H .words h), l .few)) in
+      gives-each (attributesOf (recordsOf (H .words h))) (sets-ordered 0 (recordsOf (H .words h)) (sets-known (H .words h) l)) from (asksOf H mine cs) few t
+      (asks-back (attributesOf (recordsOf (H .words h))) mine h cs e u refl)
+
+  pub ask-answered-back : AskAnsweredBack H
+  ask-answered-back h c bytes given room e u i a =
+      ap (H .status) (S .said h (c .lent) (c .back) (c .held) u) ∙ S .told (c .lent) _ _
+      ∙ ap (λ (x : Item). stepWords (H .words h) x .answer .status) i
+      ∙ ap (λ (x : Answer). x .status) (answer-words (H .words h) (command bytes given room) e)
+      ∙ ask-answered (cardOf (H .words h)) bytes given room a
 
   pub demanded : Demanded H
   demanded =
@@ -460,4 +471,5 @@ module _ (H : Holder) (S : Steps H) where
         woken-back = woken-back;
         one-back = one-back;
         gives-each-back = gives-each-back;
+        ask-answered-back = ask-answered-back;
       }

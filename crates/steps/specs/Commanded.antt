@@ -63,9 +63,13 @@ listedIds rs = picked (map idOf rs) (listedMarks rs)
 abbrev pub aggregateOf : Command → Card → List ℕ
 aggregateOf c card = aggregatePage (listedIds (card .sets))
 
--- "sets with identifier at or above CDW11 15:0"
+-- the attributes of all sets
+abbrev pub attributesOf : List Record → List Attributes
+attributesOf rs = map (λ r. r .attributes) rs
+
+-- 01: "sets with identifier at or above CDW11 15:0", amended by 02: "An Identify answer still holds 31 entries" (`inOneAnswer`)
 abbrev pub setListOf : Command → Card → List ℕ
-setListOf c card = identifyPage (asked c) (map (λ r. r .attributes) (card .sets))
+setListOf c card = identifyPage (asked c) (attributesOf (card .sets))
 
 -- ---- what commands do to the desk
 

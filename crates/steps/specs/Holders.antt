@@ -1,5 +1,5 @@
--- Demand 3, "hands back", and what 02 promises of notices, at the place where users call: said once, of anything that holds a card and
--- takes items, and of any calls to it, one after another. What is supposed of a call is only what its function promises; no run of the
+-- Demand 3, "hands back", and what 02 promises of notices and of asking Identify again, at the place where users call: said once, of
+-- anything that holds a card and takes items, and of any calls to it, one after another. What is supposed of a call is only what its function promises; no run of the
 -- step stands in a hypothesis.
 use mathlib.Core.Path.{_≡_}
 use mathlib.Core.Bool.{Bool, true, false, not, _&&_, _||_}
@@ -9,6 +9,7 @@ use Prim.Native.Nat.{ℕ, _+_, _*_, _≤_}
 use lib.Dec.{eqb}
 use lib.ListN.{length}
 use lib.Seq.{sets}
+use Rattle.octets.specs.Choice.{if_then_else_}
 use Rattle.octets.specs.Octets.{AllBytes, part, padded}
 use Rattle.octets.specs.Lists.{nth, keep, beside, Rising}
 use Rattle.record.specs.declared.Record.{Record}
@@ -28,12 +29,12 @@ use Rattle.commands.specs.declared.Kind.the-variants.{SetNotices, SetConfig, Se
 use Rattle.commands.specs.Commands.{dwordSize, commandIn, featureSet, enable, windowValue, offset, dwords, turnsOn}
 use Rattle.commands.specs.Shapes.{kindOf}
 use Rattle.steps.specs.Items.{Item, command}
-use Rattle.steps.specs.Commanded.{noticesNo}
+use Rattle.steps.specs.Commanded.{attributesOf, noticesNo}
 use Rattle.steps.specs.Card.{names, trace}
 use Rattle.steps.specs.Rows.{carriedOut}
 use Rattle.steps.specs.Words.{cardOf, stepWords, Answered, Handed}
 use Rattle.steps.specs.Demands.{alone, own, lived, pendingIds, noneOf, configures, windowOf}
-use Rattle.steps.specs.Asking.{askIn, attributes}
+use Rattle.steps.specs.Asking.{askIn, AsksList}
 use Rattle.steps.specs.Notices.{acceptedBy, readsListed, turnsNotices, Sends, Holds, Heard, Unserved}
 
 -- What holds a card and takes items.
@@ -49,7 +50,7 @@ pub record Holder : Type 1 where
   pub item : Lent → Item
   pub shows : Lent → Answer → Notice → Back
   pub status : Back → ℕ
-  -- the bytes in it that begin with the answer's data
+  -- the bytes in it, of which the answer's data are the first
   pub came : Back → List ℕ
   -- what is handed back, the notice left out
   pub without : Back → Back
@@ -286,16 +287,25 @@ module _ (H : Holder) where
 
 -- ---- 02, "Sixty-four sessions", of a holder: Asking.antt has the same of the step, with the sentences.
 
--- the asks among calls, whatever calls stand between them
-abbrev pub asksOf : (H : Holder) → List (Called H) → List Ask
-asksOf H [] = []
-asksOf H (c ∷ cs) = askIn (H .item (c .lent)) (H .status (c .back)) (H .came (c .back)) ++ asksOf H cs
+-- the asks of one host: `mine` tells its calls from those of others
+abbrev pub asksOf : (H : Holder) → (H .Lent → Bool) → List (Called H) → List Ask
+asksOf H mine [] = []
+asksOf H mine (c ∷ cs) = (if mine (c .lent) then askIn (H .item (c .lent)) (H .status (c .back)) (H .came (c .back)) else []) ++ asksOf H mine cs
 
 module _ (H : Holder) where
+  -- the asks of a host, whatever calls stand between them, come to an end, and then have given each set once: read off the bytes that
+  -- were handed back
   abbrev pub GivesEachBack : Type 0
   GivesEachBack =
-      (h : H .Held) (cs : List (Called H)) (from : ℕ) → legalTable (H .words h) ≡ true → History H h cs
-      → asksFrom from (asksOf H cs) ≡ true → GivesEach (attributes (cardOf (H .words h))) from (asksOf H cs)
+      (mine : H .Lent → Bool) (h : H .Held) (cs : List (Called H)) (from : ℕ) → legalTable (H .words h) ≡ true → History H h cs
+      → asksFrom from (asksOf H mine cs) ≡ true → GivesEach (attributesOf (recordsOf (H .words h))) from (asksOf H mine cs)
+
+  -- and no ask is refused
+  abbrev pub AskAnsweredBack : Type 0
+  AskAnsweredBack =
+      (h : H .Held) (c : Called H) (bytes given : List ℕ) (room : ℕ) → legalTable (H .words h) ≡ true
+      → H .Call h (c .lent) (c .back) (c .held) → H .item (c .lent) ≡ command bytes given room → AsksList bytes room
+      → H .status (c .back) ≡ success
 
 -- All of it, "hands back" of demand 2, demand 3, 02's notices and asking again, under one name.
 pub record Demanded (H : Holder) : Type 0 where
@@ -316,6 +326,7 @@ pub record Demanded (H : Holder) : Type 0 where
   pub woken-back : WokenBack H
   pub one-back : OneBack H
   pub gives-each-back : GivesEachBack H
+  pub ask-answered-back : AskAnsweredBack H
 
 -- What is asked of a holder for that: each call goes by the step on the words that it holds.
 pub record Steps (H : Holder) : Type 0 where

@@ -56,7 +56,8 @@ firstBodies bytes n = take (min n (bodies bytes) * bodySize) bytes
 unfoldable pub newSets : List ℕ → List Record
 newSets bytes = map newRecord (attributesFrom bytes 0 (bodies bytes))
 
--- "Set-up: number of sets, order, an attribute or a body's length wrong 07C4h, then table slice too short 07C2h."
+-- 01: "Set-up: number of sets, order, an attribute or a body's length wrong 07C4h, then table slice too short 07C2h."; 02: "Set-up refuses
+-- 65 with 07C4h."
 abbrev pub setUpLines : List ℕ → ℕ → List Line
 setUpLines bytes words =
     line (not (inRange maxSets (bodies bytes))) badSetUp

@@ -96,7 +96,7 @@ abbrev pub legalSets : ℕ → List Record → Bool
 legalSets before [] = true
 legalSets before (r ∷ rs) = legalRecord r && ltb before (idOf r) && legalSets (idOf r) rs
 
--- 01: "1 to 31 sets", by 02 up to 64; and room that is not too short for them
+-- 01: "1 to 31 sets", amended by 02: "Raise the limit to 64."; and room that is not too short for them
 abbrev pub roomFor : ℕ → ℕ → Bool
 roomFor n room = inRange maxSets n && leb (rowStart n) room
 

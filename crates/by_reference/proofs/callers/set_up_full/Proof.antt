@@ -55,6 +55,7 @@ use Rattle.by_reference.proofs.Values.{attributesVal}
 use Rattle.by_reference.proofs.lists.set_up as g
 use Rattle.by_reference.proofs.lists.set_up.Symbol as g-def
 use Rattle.by_reference.proofs.lists.set_up.Symbol.{name as #set-up}
+use Rattle.table.specs.Table.{maxSets}
 use Rattle.by_reference.proofs.lists.set_up.Met as g-thm
 use Rattle.by_reference.proofs.callers.set_up_full.Key.{name as #set-up-full}
 use Rattle.by_reference.proofs.callers.set_up_full as f
@@ -63,7 +64,7 @@ use Rattle.by_reference.proofs.callers.set_up_full.Code as code
 
 -- the array
 abbrev Full : RattleType
-Full = Array T.the-row 64
+Full = Array T.the-row maxSets
 
 abbrev stayed : Stays (f.ended .signature .params) (f.ended .kept)
 stayed = (gave-slice (0 ∷ []) tt (plain (λ _. u64)), (stay-none (λ _. Full) yes, tt))
@@ -72,7 +73,7 @@ stayed = (gave-slice (0 ∷ []) tt (plain (λ _. u64)), (stay-none (λ _. Full) 
 abbrev Called : {M : Type 1} (𝓤 : URA M) (H : Heap 𝓤) (A : Atoms 𝓤) (at-mem : Memory → SProp 𝓤) (run : Routine → Fun 𝓤) → Contract 𝓤
 Called 𝓤 H A at-mem run = tripleOf 𝓤 H A g.signature (g.spec 𝓤 H A at-mem run)
 
-module _ {M : Type 1} (𝓤 : URA M) (H : Heap 𝓤) (A : Atoms 𝓤) (W : Given 𝓤 H A) (at-mem : Memory → SProp 𝓤) (run : Routine → Fun 𝓤) (κ : Lft) (q : Share) (b o : ℕ) (γ : GName) (ts : List ℕ) (xs : List Attributes) (gt : Room u64 (length ts)) (is-xs : Is (Array T.the-row 64) xs (arrayVal (map (λ x. attributesVal x) xs) ∷ [])) where
+module _ {M : Type 1} (𝓤 : URA M) (H : Heap 𝓤) (A : Atoms 𝓤) (W : Given 𝓤 H A) (at-mem : Memory → SProp 𝓤) (run : Routine → Fun 𝓤) (κ : Lft) (q : Share) (b o : ℕ) (γ : GName) (ts : List ℕ) (xs : List Attributes) (gt : Room u64 (length ts)) (is-xs : Is (Array T.the-row maxSets) xs (arrayVal (map (λ x. attributesVal x) xs) ∷ [])) where
   abbrev x : RefT (List ℕ)
   x = record { ptr = (b, o); name = γ; now = ts }
 
@@ -91,7 +92,7 @@ module _ {M : Type 1} (𝓤 : URA M) (H : Heap 𝓤) (A : Atoms 𝓤) (W : Given
   abbrev at : Vals f.signature (κ, tt)
   at = (s ∷ [], (machine ∷ [], tt))
 
-  long : length xs ≡ 64
+  long : length xs ≡ maxSets
   long = is-xs .1 .0 .1
 
   abbrev Post : Val → SProp 𝓤
@@ -112,10 +113,10 @@ module _ {M : Type 1} (𝓤 : URA M) (H : Heap 𝓤) (A : Atoms 𝓤) (W : Given
   y m δ = record { ptr = (m, 0); name = δ; now = xs }
 
   abbrev s′ : ℕ → Val
-  s′ m = sliceVal (m, 0) 64
+  s′ m = sliceVal (m, 0) maxSets
 
-  lends : (m ν : ℕ) → ent 𝓤 (mean 𝓤 H A (‵ (arr-parts (shares T.the-row) 64 .part fullShare xs m 0)))
-      (mean 𝓤 H A (later (some (λ (δ : GName). ‵ (ShrSlice (named 1) (ν ∷ []) T.the-row .own (y m δ) (s′ m ∷ [])) ⊛ ‵ (flent (ν ∷ []) (arr-parts (shares T.the-row) 64 .part fullShare xs m 0))))))
+  lends : (m ν : ℕ) → ent 𝓤 (mean 𝓤 H A (‵ (arr-parts (shares T.the-row) maxSets .part fullShare xs m 0)))
+      (mean 𝓤 H A (later (some (λ (δ : GName). ‵ (ShrSlice (named 1) (ν ∷ []) T.the-row .own (y m δ) (s′ m ∷ [])) ⊛ ‵ (flent (ν ∷ []) (arr-parts (shares T.the-row) maxSets .part fullShare xs m 0))))))
   lends m ν =
       subst (λ (k : ℕ). ent 𝓤 (mean 𝓤 H A (‵ (arr-parts (shares T.the-row) k .part fullShare xs m 0))) (mean 𝓤 H A (later (some (λ (δ : GName). ‵ (ShrSlice (named 1) (ν ∷ []) T.the-row .own (y m δ) (sliceVal (m, 0) k ∷ [])) ⊛ ‵ (flent (ν ∷ []) (arr-parts (shares T.the-row) k .part fullShare xs m 0))))))) long
       (lends-shr-slice 𝓤 H A W T.the-row (named 1) (ν ∷ []) fullShare xs m 0 (subst (Room T.the-row) (sym long) (lit< tt, lit< tt)))
@@ -135,20 +136,20 @@ module _ {M : Type 1} (𝓤 : URA M) (H : Heap 𝓤) (A : Atoms 𝓤) (W : Given
     walk =
         qed W ((‵ (flft κ q) ⊛ ‵ ftrue) ∷ ‵ (owns (MutSlice (named 0) κ u64 ∷ Full ∷ []) a at) ∷ []) ∵ enter ! C Λ code.function (s ∷ machine ∷ []) _ $
         alloc1 ! (λ l₀. alloc1 ! (λ l₁. alloc1 ! (λ l₂. alloc1 ! (λ l₃. alloc1 ! (λ l₄. alloc1 ! (λ l₅. alloc1 ! (λ l₆. alloc1 ! (λ l₇. alloc0 ! $ params1 ! $ pass1 ! (init ! 12 refl (tt, (tt, (record { fits = gt .0 }, tt)))) $
-        pass1 ! (init ! 10 refl (array-lawful 𝓤 H A W T.the-row (LL.lawful T.the-type T′.the-laws 𝓤 H A W) 64 .typed xs _ is-xs .0)) $ pass0 ! $
+        pass1 ! (init ! 10 refl (array-lawful 𝓤 H A W T.the-row (LL.lawful T.the-type T′.the-laws 𝓤 H A W) maxSets .typed xs _ is-xs .0)) $ pass0 ! $
         -- [room for _7 0; …; _6 2; …; _5 4; …; _4 6; …; _3 8; …; _2 10; …; _1 12; …; room for _0 14; …; the token; what is owned]
-        assigns ! (of-opd ! (load ! (from ! (stop !)) (look ! 10 refl))) (from ! (stop !)) (init ! 8 refl (array-lawful 𝓤 H A W T.the-row (LL.lawful T.the-type T′.the-laws 𝓤 H A W) 64 .typed xs _ is-xs .0)) $
+        assigns ! (of-opd ! (load ! (from ! (stop !)) (look ! 10 refl))) (from ! (stop !)) (init ! 8 refl (array-lawful 𝓤 H A W T.the-row (LL.lawful T.the-type T′.the-laws 𝓤 H A W) maxSets .typed xs _ is-xs .0)) $
         assigns ! (addr ! (from ! (fld ! refl (hop ! (look-in ! 12 (sub ! 0 refl (whole !))) (stop !))))) (from ! (stop !)) (init ! 6 refl (tt, tt)) $
         assigns ! (agg ! (and-then ! (load ! (from ! (stop !)) (look ! 6 refl)) (and-then ! (load ! (from ! (fld ! refl (stop !))) (look-in ! 12 (sub ! 1 refl (whole !)))) (no-more !)))) (from ! (stop !)) (init ! 4 refl (tt, (tt, (record { fits = gt .0 }, tt)))) $
         assigns ! (addr ! (from ! (stop !))) (from ! (stop !)) (init ! 2 refl (tt, tt)) $
         assigns ! (agg ! (and-then ! (load ! (from ! (stop !)) (look ! 2 refl)) (and-then ! (lit ! tt) (no-more !)))) (from ! (stop !)) (init ! 0 refl (tt, (tt, (record { fits = lit< tt }, tt)))) $
         -- the array is taken into its elements, and lent for a lifetime ν of the call
-        move ! (8 ∷ []) $ use1 W (‵ (cellAt fullShare (Full .mir) (machine ∷ []) l₃ 0)) (W .laws .at-raw fullShare (tyArray T′.mir 64) l₃ 0 machine) $
-        owned ! Full (Is Full) (array-makes 𝓤 H A W T.the-row (LL.makes T.the-type T′.the-plain 𝓤 H A) 64) xs (machine ∷ []) is-xs $
+        move ! (8 ∷ []) $ use1 W (‵ (cellAt fullShare (Full .mir) (machine ∷ []) l₃ 0)) (W .laws .at-raw fullShare (tyArray T′.mir maxSets) l₃ 0 machine) $
+        owned ! Full (Is Full) (array-makes 𝓤 H A W T.the-row (LL.makes T.the-type T′.the-plain 𝓤 H A) maxSets) xs (machine ∷ []) is-xs $
         move ! (1 ∷ 0 ∷ []) $ fjoin ! $ fpack ! (List Val) (λ us. fsep (cellAt fullShare (Full .mir) us l₃ 0) (Full .own xs us)) (machine ∷ []) $
-        use1 W (‵ (arr-parts (shares T.the-row) 64 .part fullShare xs l₃ 0)) (array-apart 𝓤 H A W T.the-row fullShare tt 64 xs l₃ 0) $
+        use1 W (‵ (arr-parts (shares T.the-row) maxSets .part fullShare xs l₃ 0)) (array-apart 𝓤 H A W T.the-row fullShare tt maxSets xs l₃ 0) $
         lft-new ! tt (λ ν. move ! (1 ∷ []) $
-        use1 W (later (some (λ (δ : GName). ‵ (ShrSlice (named 1) (ν ∷ []) T.the-row .own (y l₃ δ) (s′ l₃ ∷ [])) ⊛ ‵ (flent (ν ∷ []) (arr-parts (shares T.the-row) 64 .part fullShare xs l₃ 0))))) (lends l₃ ν) $ await ! tt $ pick ! (λ δ. split ! $
+        use1 W (later (some (λ (δ : GName). ‵ (ShrSlice (named 1) (ν ∷ []) T.the-row .own (y l₃ δ) (s′ l₃ ∷ [])) ⊛ ‵ (flent (ν ∷ []) (arr-parts (shares T.the-row) maxSets .part fullShare xs l₃ 0))))) (lends l₃ ν) $ await ! tt $ pick ! (λ δ. split ! $
         -- [the slice; what is lent; ν's token; _7 3; …; room for _0 16; …; the token 18; what is owned 19]
         move ! (19 ∷ []) $ fsplit ! $ move ! (20 ∷ []) $ split ! $ move ! (0 ∷ 6 ∷ 2 ∷ 4 ∷ []) $ join ! $
         use3 W (raw (Called 𝓤 H A at-mem run .pre (to-g l₃ ν δ))) (goes-g l₃ ν δ) $
@@ -162,9 +163,9 @@ module _ {M : Type 1} (𝓤 : URA M) (H : Heap 𝓤) (A : Atoms 𝓤) (W : Given
         land ! (from ! (stop !)) (init ! 20 refl (uint-lawful 𝓤 H A W w16 .typed r _ is-r .0)) $
         -- the lifetime is ended, and the local holds the array again
         move ! (1 ∷ []) $ split ! $ move ! (1 ∷ []) $ split ! $ lft-end ! tt $ move ! (0 ∷ 8 ∷ []) $ lent-back ! tt $
-        use1 W (‵ (partAt Full fullShare xs l₃ 0)) (array-whole 𝓤 H A W T.the-row fullShare 64 xs l₃ 0) $ fpick ! (λ vs. fsplit ! $
-        spelt ! Full (Is Full) (shows 𝓤 H A Full) (array-vals (LL.vals T.the-type T′.the-laws)) (array-tells T.the-row (LL.vals T.the-type T′.the-laws) (LL.tells T.the-type T′.the-laws) 64) fullShare xs vs l₃ 0 $
-        use1 W (‵ (fat fullShare (tyArray T′.mir 64) l₃ 0 machine)) (W .laws .raw-at fullShare (tyArray T′.mir 64) l₃ 0 machine) $
+        use1 W (‵ (partAt Full fullShare xs l₃ 0)) (array-whole 𝓤 H A W T.the-row fullShare maxSets xs l₃ 0) $ fpick ! (λ vs. fsplit ! $
+        spelt ! Full (Is Full) (shows 𝓤 H A Full) (array-vals (LL.vals T.the-type T′.the-laws)) (array-tells T.the-row (LL.vals T.the-type T′.the-laws) (LL.tells T.the-type T′.the-laws) maxSets) fullShare xs vs l₃ 0 $
+        use1 W (‵ (fat fullShare (tyArray T′.mir maxSets) l₃ 0 machine)) (W .laws .raw-at fullShare (tyArray T′.mir maxSets) l₃ 0 machine) $
         -- [_3 0; what it owns; true; the token 3; the answer's 4; the last words 5; …; true; what the list owns 8; _7 9; …; _6 11; …; _5 13; …; _4 15; …; … 17; _2 18; …; _1 20; …; _0 22; …]
         returns ! (look ! 22 refl) $ forget ! 0 refl $ forget ! 9 refl $ forget ! 11 refl $ forget ! 13 refl $ forget ! 15 refl $ forget ! 18 refl $ forget ! 20 refl $ forget ! 22 refl $
         move ! (22 ∷ 23 ∷ []) $ free1 ! $ move ! (20 ∷ 21 ∷ []) $ free1 ! $ move ! (18 ∷ 19 ∷ []) $ free1 ! $ move ! (0 ∷ 17 ∷ []) $ free1 ! $
@@ -173,7 +174,7 @@ module _ {M : Type 1} (𝓤 : URA M) (H : Heap 𝓤) (A : Atoms 𝓤) (W : Given
 
 module _ {M : Type 1} (𝓤 : URA M) (H : Heap 𝓤) (A : Atoms 𝓤) (W : Given 𝓤 H A) (at-mem : Memory → SProp 𝓤) (run : Routine → Fun 𝓤) where
   f-walks : (C : Calls 𝓤 H) (Λ : Loops 𝓤 H) → FmC 𝓤 H (W .laws) C → Triple 𝓤 (C #set-up) (Called 𝓤 H A at-mem run) → Walks 𝓤 H A f.ended stayed (WpFn 𝓤 H C Λ code.function) (f.clauses 𝓤 H A at-mem run)
-  f-walks C Λ fm known = walked 𝓤 H A f.ended stayed (f.clauses 𝓤 H A at-mem run) (WpFn 𝓤 H C Λ code.function) (λ κs. (slice-vals, (array-vals (LL.vals T.the-type T′.the-laws), tt))) (λ κs. (mut-slice-tells (named 0) (κs .0) u64, (array-tells T.the-row (LL.vals T.the-type T′.the-laws) (LL.tells T.the-type T′.the-laws) 64, tt)))
+  f-walks C Λ fm known = walked 𝓤 H A f.ended stayed (f.clauses 𝓤 H A at-mem run) (WpFn 𝓤 H C Λ code.function) (λ κs. (slice-vals, (array-vals (LL.vals T.the-type T′.the-laws), tt))) (λ κs. (mut-slice-tells (named 0) (κs .0) u64, (array-tells T.the-row (LL.vals T.the-type T′.the-laws) (LL.tells T.the-type T′.the-laws) maxSets, tt)))
       (λ κs qs bounds a _ are. via 𝓤 _ (fst∗ 𝓤 _ (emp 𝓤)) (walk 𝓤 H A W at-mem run (κs .0) (qs .0) (a .0 .ptr .0) (a .0 .ptr .1) (a .0 .name) (a .0 .now) (a .1 .0) (are .0 .0 .1) (are .1 .0) C Λ fm known))
 
 f-meets : {M : Type 1} (𝓤 : URA M) (H : Heap 𝓤) (A : Atoms 𝓤) (W : Given 𝓤 H A) (at-mem : Memory → SProp 𝓤) (run : Routine → Fun 𝓤) (𝓣 : Tables 𝓤 H) → Triple 𝓤 (𝓣 .C #set-up) (Called 𝓤 H A at-mem run)
