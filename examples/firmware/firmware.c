@@ -199,6 +199,28 @@ static void print_listed(void)
     printf("%s\n", count ? "" : " none");
 }
 
+/* Identify: the sets whose identifier is at or above a number. An answer shows CARD_SET_LIST_ENTRIES of them at most, so the host asks
+ * again from the last identifier plus one, until an answer has fewer, or the last identifier is the highest that there can be. */
+static void print_sets(void)
+{
+    static uint8_t list[CARD_ANSWER_BYTES];
+    unsigned from = 1, count;
+    printf("sets of the card:");
+    do {
+        uint16_t status = send_command(&(struct command){
+            .opcode = CARD_IDENTIFY, .dword10 = CARD_CNS_SET_LIST, .dword11 = from, .answer = list, .answer_len = sizeof list});
+        if (CARD_IS_REFUSAL(status))
+            break;
+        count = list[0];
+        for (unsigned i = 0; i < count; i++) {
+            unsigned set = (unsigned)get_number(list + 128 * (1 + i), 2);
+            printf(" %u", set);
+            from = set + 1;
+        }
+    } while (count == CARD_SET_LIST_ENTRIES && from <= UINT16_MAX);
+    printf("\n");
+}
+
 /* The day */
 
 static void set_up(void)
@@ -265,6 +287,7 @@ static void meet_the_others(void)
 int main(void)
 {
     set_up();
+    print_sets();
     wait_for_events();
     enter_window();
     be_warned();
