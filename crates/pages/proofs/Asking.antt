@@ -3,15 +3,15 @@ use mathlib.Core.Path.{_≡_, refl, sym, ap, ap₂, _∙_}
 use mathlib.Core.Bool.{Bool, true, false, not, _&&_, _||_, false≢true}
 use mathlib.Core.List.{List, [], _∷_, _++_, map, append-nil}
 use mathlib.Core.Logic.{inr}
-use Prim.Native.Nat.{ℕ, zero, suc, _+_, _*_, _-_, _^_, _≤_, _<_}
+use Prim.Native.Nat.{ℕ, zero, suc, _+_, _*_, _-_, _≤_, _<_}
 use native.Mathlib.Omega.{arith}
 use borrow.Author.Tests.{leb-true, leb-false, le-leb, lt-leb, ltb-true, ltb-false, eqb-true, eqb-false, not-true}
 use lib.Dec.{leb, ltb, eqb}
-use lib.ListN.{length, getD, take, drop, replicate, length-append, length-take, length-drop, length-replicate, take-append-drop}
+use lib.ListN.{length, getD, take, drop, replicate, length-take, length-drop, length-replicate, take-append-drop}
 use lib.Seq.{sets, length-sets, take-all, getD-take}
 use Rattle.octets.specs.Lists.{Rising}
 use Rattle.octets.specs.Octets.{bytesOf, numberOf, part}
-use Rattle.octets.specs.Pages.{Field, puts, place, tidy}
+use Rattle.octets.specs.Pages.{Field, puts, place}
 use Rattle.octets.proofs.JoinedTests.{both, left-false, right-false}
 use Rattle.octets.proofs.Runs.{part-other}
 use Rattle.octets.proofs.PutAndGet.{length-bytes, get-put}
@@ -19,7 +19,7 @@ use Rattle.octets.proofs.Pages.{placed, puts-more, length-puts, puts-before, pu
 use Rattle.record.specs.declared.Attributes.{Attributes}
 use Rattle.record.specs.Legal.{numberMaximum}
 use Rattle.table.specs.Table.{maxSets}
-use Rattle.pages.specs.Identify.{identifySize, entrySize, firstEntry, identifyEntries, shownIf, shown, inOneAnswer, entryPlaces, entryValues, entryFields, entryPage, entriesAt, identifyFields, identifyPage}
+use Rattle.pages.specs.Identify.{identifySize, entrySize, firstEntry, identifyEntries, shownIf, shown, inOneAnswer, entryPlaces, entryValues, entryFields, entryPage, entriesAt, identifyPage}
 use Rattle.pages.specs.Asking.{countIn, readEntries, entriesIn, idIn, lastIn, nextIn, isLast, Ask, asksFrom, through, gathered, EachOnce, asksMost, GivesEach}
 use Rattle.pages.proofs.Entries.{one-tidy, entries-tidy}
 

@@ -11,11 +11,10 @@ use lib.Dec.{leb}
 use lib.ListN.{length, take, length-append, length-take}
 use lib.Seq.{sets}
 use Rattle.octets.specs.Octets.{bytesOf}
-use borrow.Author.Needs.{needs}
 use Rattle.octets.specs.Pages.{Field, puts, place, tidy, Fit, readings, values}
 use Rattle.octets.proofs.JoinedTests.{both}
 use Rattle.octets.proofs.Runs.{sets-comm}
-use Rattle.octets.proofs.Pages.{placed, made-onto, read-back, puts-more}
+use Rattle.octets.proofs.Pages.{made-onto, read-back, puts-more}
 use Rattle.octets.proofs.Pages.{length-puts}
 use Rattle.record.specs.declared.Attributes.{Attributes}
 use Rattle.pages.specs.Bodies.{Sized, AllSized}

@@ -18,7 +18,7 @@ use Rattle.octets.proofs.Halves.{odd-or-even}
 use Rattle.octets.proofs.Pages.{read-back}
 use Rattle.record.specs.Event.{bit}
 use Rattle.table.specs.Table.{maxSets, wordOf}
-use Rattle.pages.specs.Aggregate.{listedIf, picked, listedBy, OneWord, CountIsOnes, NextIsLowest, lowestOne, withoutLowest, aggregateSize, firstListed, listedSize, countPage, entriesFrom, listFields, aggregatePage}
+use Rattle.pages.specs.Aggregate.{listedIf, listedBy, OneWord, CountIsOnes, NextIsLowest, lowestOne, withoutLowest, aggregateSize, firstListed, listedSize, countPage, entriesFrom, listFields, aggregatePage}
 
 -- a word without its lowest one
 unfoldable cleared : ℕ → ℕ

@@ -1,9 +1,9 @@
 -- Identify asked again: no item changes a set's attributes, so the answers are parts of one list.
-use mathlib.Core.Path.{_≡_, refl, sym, ap, ap₂, _∙_}
+use mathlib.Core.Path.{_≡_, refl, ap, ap₂, _∙_}
 use mathlib.Core.Bool.{Bool, true, false, not, _&&_, false≢true}
 use mathlib.Core.List.{List, [], _∷_, _++_, map}
 use mathlib.Core.Logic.{_⊎_, inl, inr, ⊎-elim}
-use Prim.Native.Nat.{ℕ, zero, suc, _+_, _%_, _^_, _≤_, _<_}
+use Prim.Native.Nat.{ℕ, zero, suc, _+_, _≤_}
 use native.Mathlib.Omega.{arith}
 use native.Mathlib.Nat.{mod-eq-of-lt}
 use borrow.Author.Tests.{eqb-true, eq-eqb, le-ltb}
@@ -11,7 +11,7 @@ use lib.Dec.{eqb}
 use lib.ListN.{length, length-map}
 use Rattle.octets.specs.Choice.{if_then_else_}
 use Rattle.octets.specs.Octets.{part, bytesOf, numberOf}
-use Rattle.octets.proofs.JoinedTests.{both, together, and-left, and-right}
+use Rattle.octets.proofs.JoinedTests.{both, together, and-left}
 use Rattle.octets.proofs.PutAndGet.{number-bytes}
 use Rattle.record.specs.declared.Attributes.{Attributes}
 use Rattle.record.specs.declared.Record.{Record}
@@ -19,12 +19,11 @@ use Rattle.record.specs.Parts.{idOf}
 use Rattle.record.specs.Legal.{numberMaximum}
 use Rattle.replies.specs.Numbers.{success}
 use Rattle.replies.specs.Answers.{Answer, granted}
-use Rattle.table.specs.Table.{legalSets, maxSets}
+use Rattle.table.specs.Table.{legalSets}
 use Rattle.pages.specs.Identify.{identifySize, inOneAnswer, identifyFields, identifyPage}
-use Rattle.pages.specs.Asking.{nextIn, isLast, Ask, asksFrom, through, gathered, asksMost, GivesEach}
+use Rattle.pages.specs.Asking.{nextIn, isLast, Ask, asksFrom, through, asksMost}
 use Rattle.pages.proofs.Asking as pages
 use Rattle.octets.proofs.Pages.{length-place}
-use Rattle.commands.specs.declared.Command.{Command}
 use Rattle.commands.specs.declared.Kind.{Kind}
 use Rattle.commands.specs.declared.Kind.the-variants.{SetNotices, SetConfig, SetWindow, GetNotices, GetConfig, GetWindow, ReadLatency, ReadAggregate, EventRequest, Identify}
 use Rattle.commands.specs.Commands.{commandSize, bits, asked, commandIn}
@@ -32,9 +31,9 @@ use Rattle.commands.specs.Shapes.{identifyOpcode, setListCns, kindBy, kindOf}
 use Rattle.steps.specs.Items.{Card, Item, reads, writes, excursion, tick, command, Nobody}
 use Rattle.steps.specs.Commanded.{attributesOf, viewed, meaningBy, commandMeaning}
 use Rattle.steps.specs.Meanings.{meaning}
-use Rattle.steps.specs.Card.{concerns, ruled, touched, setsAfter, refusalOf, answer, step}
+use Rattle.steps.specs.Card.{concerns, ruled, touched, refusalOf, answer, step}
 use Rattle.steps.specs.Edges.{commandOf}
-use Rattle.steps.specs.Asking.{isSetList, askIn, asks, AskingGives, AsksList, AskAnswered, identifyFrom, hostAsks, Gathers, EachSetOnce}
+use Rattle.steps.specs.Asking.{isSetList, askIn, asks, AskingGives, AsksList, AskAnswered, identifyFrom, hostAsks, EachSetOnce}
 use Rattle.steps.proofs.Slots.{ordered}
 use Rattle.steps.proofs.ExactRefusals.{not-refused}
 use Rattle.steps.proofs.IdleRefuted.{id-fits}

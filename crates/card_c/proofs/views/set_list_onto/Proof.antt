@@ -1,6 +1,5 @@
 use borrow.Author.Needs.{needs}
 use Rattle.pages.proofs.Entries.{show-onto}
-use Rattle.region.specs.Region.{tableIn}
 use Rattle.card_c.proofs.views.set_list_onto.Statement.{statement}
 use Rattle.card_c.proofs.views.set_list_onto.Tie as tie
 
