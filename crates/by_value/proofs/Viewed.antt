@@ -8,7 +8,6 @@ use lib.Dec.{eqb}
 use lib.ListN.{length}
 use lib.Seq.{sets}
 use Rattle.octets.specs.Choice.{if_then_else_}
-use Rattle.octets.proofs.Pages.{length-place}
 use Rattle.replies.specs.declared.Notice.{Notice}
 use Rattle.replies.specs.declared.Notice.the-variants.{Unsent}
 use Rattle.replies.specs.declared.Reply.{Reply}
@@ -20,8 +19,6 @@ use Rattle.table.specs.Table.{deskAt, withDesk, DeskThere, Tells, legalTable}
 use Rattle.table.proofs.LegalTables.{legal-known, desk-there}
 use Rattle.table.proofs.Desks.{quiet-tells}
 use Rattle.table.proofs.Written.{written-desk}
-use Rattle.pages.specs.Identify.{identifySize, identifyFields, inOneAnswer, identifyPage}
-use Rattle.record.specs.declared.Attributes.{Attributes}
 use Rattle.commands.specs.declared.Command.{Command}
 use Rattle.commands.specs.declared.Kind.{Kind}
 use Rattle.commands.specs.declared.Kind.the-variants.{GetNotices, ReadAggregate, Identify}
@@ -29,12 +26,13 @@ use Rattle.commands.specs.Commands.{commandIn, retain}
 use Rattle.commands.specs.Shapes.{shapeOf, kindOf, isNamed, namedBy}
 use Rattle.commands.specs.StatusTable.{earlyLines, shortLine}
 use Rattle.steps.specs.Items.{Item, command, Nobody, The}
-use Rattle.steps.specs.Commanded.{aggregateOf, setListOf, noticesNo, doing, askedOf, named, viewLines, viewed, meaningBy, commandMeaning}
+use Rattle.steps.specs.Commanded.{aggregateOf, setListOf, noticesNo, doing, askedOf, named, viewLines, viewed, meaningBy}
 use Rattle.steps.specs.Meanings.{meaning}
 use Rattle.steps.specs.Card.{refusalOf, after, answer}
 use Rattle.steps.specs.Words.{cardOf, Answered}
 use Rattle.steps.proofs.AtDesk.{nobody-sets, told-nobody}
 use Rattle.steps.proofs.StepOnWords.{step-legal, step-refused}
+use Rattle.steps.proofs.CommandIs.{command-is}
 use Rattle.by_value.proofs.EventsAndTicks.{turned-down}
 
 -- what the rows of the status table say of it, on this card
@@ -126,17 +124,11 @@ notices-read ws i c given before m e s es on w x z eo ew ex =
     viewed-done ws i GetNotices c given before m e s es ws Unsent x before z (quiet-tells ws (desk-there ws (legal-known ws e)))
     (rw (ex, ew, eo) (no-data _ before)) (rw ex)
 
--- how long Identify's page is
-pub list-long : (from : ℕ) (sets : List Attributes) → identifySize ≡ length (identifyPage from sets)
-unfolding identifyPage
-list-long from sets = sym (length-place identifySize (identifyFields (inOneAnswer from sets)))
-
 -- ---- which command it is
 
 module _ (bytes given : List ℕ) (room : ℕ) (c : Command) (k : Kind) (ec : c ≡ commandIn bytes) (ek : k ≡ kindOf c) where
   meaning-is : meaning (command bytes given room) ≡ meaningBy k c given room
-  unfolding meaning commandMeaning
-  meaning-is = rw (ek, ec)
+  meaning-is = rw ec (command-is bytes given room k (sym (rw ec at ek)))
 
   pub is-named : isNamed k ≡ true → meaning (command bytes given room) ≡ The (namedBy k c) (named k c given room)
   is-named n = meaning-is ∙ rw n

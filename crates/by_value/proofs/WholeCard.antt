@@ -2,15 +2,18 @@
 use mathlib.Core.Path.{_≡_, refl, sym, ap, _∙_}
 use mathlib.Core.Bool.{Bool, true, false, _&&_}
 use mathlib.Core.List.{List, [], _∷_, map}
-use Prim.Native.Nat.{ℕ, _+_, _^_, _≤_, _<_}
+use mathlib.Core.Option.{some}
+use Prim.Native.Nat.{ℕ, zero, suc, _+_, _^_, _≤_, _<_}
 use native.Mathlib.Omega.{arith}
 use lib.Dec.{ltb}
 use borrow.Author.Tests.{ltb-true, ltb-false}
 use lib.Count.{ones}
-use lib.ListN.{length, length-map}
+use lib.ListN.{length, getD, length-map}
+use Rattle.octets.specs.Lists.{nth}
 use Rattle.octets.specs.Pages.{puts}
 use Rattle.octets.proofs.JoinedTests.{both}
 use Rattle.record.specs.declared.Attributes.{Attributes}
+use Rattle.record.specs.declared.Record.{Record}
 use Rattle.record.specs.Parts.{idOf}
 use Rattle.table.specs.Layout.{recordOf}
 use Rattle.table.specs.Table.{count, row, recordsOf, Legal, listedMarks, listedWord, maxSets}
@@ -21,35 +24,45 @@ use Rattle.pages.specs.Identify.{identifySize, entrySize, firstEntry, Shows}
 use Rattle.pages.proofs.Listed.{word-below, one-word, page-is}
 use Rattle.pages.proofs.Entries.{Showing, show-start, show-room, show-turn, show-end, show-full}
 use Rattle.steps.specs.Commanded.{listedIds, attributesOf}
+use Rattle.steps.proofs.StepOnWords.{record-at}
 use Rattle.by_value.specs.Views.{ShowsAll}
 
 -- ---- 0Bh
 
-abbrev pub idsOf : List ℕ → List ℕ
-idsOf ws = map idOf (recordsOf ws)
+abbrev pub setIds : List ℕ → List ℕ
+setIds ws = map idOf (recordsOf ws)
 
-pub ids-many : (ws : List ℕ) → length (idsOf ws) ≡ count ws
+id-there : (rs : List Record) (k : ℕ) (r : Record) → nth k rs ≡ some r → idOf r ≡ getD (map idOf rs) k 0
+id-there [] k r e = absurd (let z : _≡_ {A = ℕ} 0 1 = cc in omega arith)
+id-there (x ∷ rs) zero r e = let q : x ≡ r = cc in ap idOf (sym q)
+id-there (x ∷ rs) (suc k) r e = id-there rs k r e
+
+-- the identifier in a slot
+pub ids-at : (ws : List ℕ) (k : ℕ) → k < count ws → idOf (recordOf (row ws k)) ≡ getD (setIds ws) k 0
+ids-at ws k h = id-there (recordsOf ws) k (recordOf (row ws k)) (record-at ws k h)
+
+pub ids-many : (ws : List ℕ) → length (setIds ws) ≡ count ws
 ids-many ws = simp length-map (length-records ws)
 
 module _ (ws : List ℕ) (l : Legal ws) where
-  pub ids-few : length (idsOf ws) ≤ maxSets
+  pub ids-few : length (setIds ws) ≤ maxSets
   ids-few = omega (arith, l .few, ids-many ws)
 
   module _ (word : ℕ) (ew : word ≡ listedWord (recordsOf ws)) where
-    marks-many : length (listedMarks (recordsOf ws)) ≡ length (idsOf ws)
+    marks-many : length (listedMarks (recordsOf ws)) ≡ length (setIds ws)
     marks-many = simp length-map
 
     -- no mark past the last set
-    pub word-small : word < 2 ^ length (idsOf ws)
+    pub word-small : word < 2 ^ length (setIds ws)
     word-small = rw (ew, ← marks-many) (word-below (listedMarks (recordsOf ws)))
 
     -- what the word lists
-    pub word-lists : listedBy word (idsOf ws) ≡ listedIds (recordsOf ws)
-    word-lists = rw ew (one-word (idsOf ws) (listedMarks (recordsOf ws)) (simp length-map))
+    pub word-lists : listedBy word (setIds ws) ≡ listedIds (recordsOf ws)
+    word-lists = rw ew (one-word (setIds ws) (listedMarks (recordsOf ws)) (simp length-map))
 
     pub aggregate-is : (p q : List ℕ) → p ≡ countPage (ones word) → q ≡ puts p (entriesFrom firstListed (listedIds (recordsOf ws))) → q ≡ aggregatePage (listedIds (recordsOf ws))
     aggregate-is p q ep eq =
-        page-is (idsOf ws) p q word (ones word) word-small refl ep (eq ∙ ap (λ (ids : List ℕ). puts p (entriesFrom firstListed ids)) (sym word-lists))
+        page-is (setIds ws) p q word (ones word) word-small refl ep (eq ∙ ap (λ (ids : List ℕ). puts p (entriesFrom firstListed ids)) (sym word-lists))
         ∙ ap aggregatePage word-lists
 
 -- ---- Identify

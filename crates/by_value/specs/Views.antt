@@ -1,17 +1,11 @@
 -- The pages of the whole card, for the functions that make them from the table.
 use mathlib.Core.Path.{_≡_}
-use mathlib.Core.List.{List, map}
+use mathlib.Core.List.{List}
 use Prim.Native.Nat.{ℕ, _+_, _*_}
-use lib.ListN.{length, getD}
+use lib.ListN.{length}
 use Rattle.octets.specs.Pages.{puts}
 use Rattle.record.specs.declared.Attributes.{Attributes}
-use Rattle.record.specs.Parts.{idOf}
-use Rattle.table.specs.Table.{recordsOf}
 use Rattle.pages.specs.Identify.{entrySize, firstEntry, inOneAnswer, entriesAt}
-
--- the identifier of the set in a slot
-abbrev pub idAtSlot : List ℕ → ℕ → ℕ
-idAtSlot ws slot = getD (map idOf (recordsOf ws)) slot 0
 
 -- the sets of one answer, put on a page from its first entry on: the page after them, and the next place
 pub record ShowsAll (from : ℕ) (all : List Attributes) (page after : List ℕ) (next : ℕ) : Type 0 where

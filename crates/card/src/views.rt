@@ -5,12 +5,13 @@ ghost use lib.ListN.{length};
 ghost use lib.Seq.{sets};
 ghost use Rattle.octets.specs.Octets.{bytesOf};
 ghost use Rattle.octets.specs.Pages.{puts};
+ghost use Rattle.record.specs.Parts.{idOf};
 ghost use Rattle.table.specs.Layout.{recordOf};
-ghost use Rattle.table.specs.Table.{count, rowStart, row, recordsOf, listedWord, Legal};
+ghost use Rattle.table.specs.Table.{rowStart, row, recordsOf, listedWord, Legal};
 ghost use Rattle.pages.specs.Aggregate.{lowestOne, aggregateSize, firstListed, listedSize, entriesFrom, aggregatePage};
 ghost use Rattle.pages.specs.Identify.{entrySize, identifySize, identifyPage, Shows};
 ghost use Rattle.steps.specs.Commanded.{listedIds, attributesOf};
-ghost use Rattle.by_value.specs.Views.{idAtSlot, ShowsAll};
+ghost use Rattle.by_value.specs.Views.{ShowsAll};
 use pages::aggregate::AGGREGATE_SIZE;
 use pages::aggregate::FIRST_LISTED;
 use pages::aggregate::LISTED_SIZE;
@@ -31,8 +32,8 @@ use table::load;
 
 // The entry of the word's lowest one: "the next entry its lowest one".
 fn put_next(page: &mut [u8], to: usize, table: &[u64], left: u64)
-    requires { ⌜ Legal (now table) × (lowestOne left < count (now table)) × (to + listedSize ≤ length (now page)) ⌝ }
-    ensures { λ _. ⌜ now (page .exit) ≡ sets (now (page .entry)) to (bytesOf listedSize (idAtSlot (now (table .entry)) (lowestOne left))) ⌝ }
+    requires { ⌜ (rowStart (lowestOne left + 1) ≤ length (now table)) × (to + listedSize ≤ length (now page)) ⌝ }
+    ensures { λ _. ⌜ now (page .exit) ≡ sets (now (page .entry)) to (bytesOf listedSize (idOf (recordOf (row (now (table .entry)) (lowestOne left))))) ⌝ }
 {
     let slot = lowest(left);
     put_listed(page, to, id_of(table, slot));

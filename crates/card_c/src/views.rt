@@ -5,13 +5,14 @@ ghost use lib.ListN.{length};
 ghost use lib.Seq.{sets};
 ghost use Rattle.octets.specs.Octets.{bytesOf};
 ghost use Rattle.octets.specs.Pages.{puts};
-ghost use Rattle.table.specs.Table.{count, rowStart, recordsOf, listedWord, Legal};
+ghost use Rattle.record.specs.Parts.{idOf};
+ghost use Rattle.table.specs.Table.{rowStart, recordsOf, listedWord, Legal};
 ghost use Rattle.pages.specs.Aggregate.{lowestOne, aggregateSize, firstListed, listedSize, entriesFrom, aggregatePage};
 ghost use Rattle.pages.specs.Identify.{entrySize, identifySize, identifyPage, Shows};
 ghost use Rattle.region.specs.Region.{tableIn, recordAt};
 ghost use Rattle.steps.specs.Commanded.{listedIds, attributesOf};
 ghost use Rattle.octets.specs.Words.{wordSize};
-ghost use Rattle.by_value.specs.Views.{idAtSlot, ShowsAll};
+ghost use Rattle.by_value.specs.Views.{ShowsAll};
 use pages::aggregate::AGGREGATE_SIZE;
 use pages::aggregate::FIRST_LISTED;
 use pages::aggregate::LISTED_SIZE;
@@ -32,8 +33,8 @@ use region::load;
 
 // The entry of the word's lowest one: "the next entry its lowest one".
 fn put_next(page: &mut [u8], to: usize, region: &[u8], left: u64)
-    requires { ⌜ Legal (tableIn (now region)) × (lowestOne left < count (tableIn (now region))) × (to + listedSize ≤ length (now page)) ⌝ }
-    ensures { λ _. ⌜ now (page .exit) ≡ sets (now (page .entry)) to (bytesOf listedSize (idAtSlot (tableIn (now (region .entry))) (lowestOne left))) ⌝ }
+    requires { ⌜ (rowStart (lowestOne left + 1) ≤ length (now region) / wordSize) × (to + listedSize ≤ length (now page)) ⌝ }
+    ensures { λ _. ⌜ now (page .exit) ≡ sets (now (page .entry)) to (bytesOf listedSize (idOf (recordAt (now (region .entry)) (lowestOne left)))) ⌝ }
 {
     let slot = lowest(left);
     put_listed(page, to, id_of(region, slot));

@@ -1,7 +1,7 @@
 -- Asking Identify again, over plain lists of sets.
 use mathlib.Core.Path.{_≡_, refl, sym, ap, ap₂, _∙_}
 use mathlib.Core.Bool.{Bool, true, false, not, _&&_, _||_, false≢true}
-use mathlib.Core.List.{List, [], _∷_, _++_, map, append-nil}
+use mathlib.Core.List.{List, [], _∷_, _++_, map, map-append, append-nil}
 use mathlib.Core.Logic.{inr}
 use Prim.Native.Nat.{ℕ, zero, suc, _+_, _*_, _-_, _≤_, _<_}
 use native.Mathlib.Omega.{arith}
@@ -21,7 +21,7 @@ use Rattle.record.specs.Legal.{numberMaximum}
 use Rattle.table.specs.Table.{maxSets}
 use Rattle.pages.specs.Identify.{identifySize, entrySize, firstEntry, identifyEntries, shownIf, shown, inOneAnswer, entryPlaces, entryValues, entryFields, entryPage, entriesAt, identifyPage}
 use Rattle.pages.specs.Asking.{countIn, readEntries, entriesIn, idIn, lastIn, nextIn, isLast, Ask, asksFrom, through, gathered, EachOnce, asksMost, GivesEach}
-use Rattle.pages.proofs.Entries.{one-tidy, entries-tidy}
+use Rattle.pages.proofs.Entries.{one-tidy, entries-tidy, list-long}
 
 abbrev pub idsOf : List Attributes → List ℕ
 idsOf xs = map (λ (a : Attributes). a .id .0) xs
@@ -112,9 +112,9 @@ after-nth before (a ∷ xs) (suc n) o h =
 
 -- ---- what is read off an answer
 
--- bytes that read as a page does
+-- bytes that read as a page does, as far as that goes
 abbrev pub Reads : List ℕ → List ℕ → Type 0
-Reads answer page = (at n : ℕ) → at + n ≤ identifySize → part answer at n ≡ part page at n
+Reads answer page = (at n : ℕ) → at + n ≤ length page → part answer at n ≡ part page at n
 
 -- entries put on zeros, each read whole
 abbrev Blank : List ℕ → ℕ → Type 0
@@ -164,7 +164,7 @@ ids-taken zero xs = refl
 ids-taken (suc n) [] = refl
 ids-taken (suc n) (a ∷ xs) = ap (_∷_ (a .id .0)) (ids-taken n xs)
 
-same-entries : (answer page : List ℕ) → Reads answer page → (to n : ℕ) → to + entrySize * n ≤ identifySize → readEntries answer to n ≡ readEntries page to n
+same-entries : (answer page : List ℕ) → Reads answer page → (to n : ℕ) → to + entrySize * n ≤ length page → readEntries answer to n ≡ readEntries page to n
 same-entries answer page r to zero h = refl
 same-entries answer page r to (suc n) h = ap₂ _∷_ (r to entrySize (omega arith)) (same-entries answer page r (to + entrySize) n (omega arith))
 
@@ -206,11 +206,11 @@ module _ (all : List Attributes) (from : ℕ) (o : Ordered 0 all) where
 
   module _ (answer : List ℕ) (r : Reads answer (identifyPage from all)) where
     count-is : countIn answer ≡ length one
-    count-is = ap numberOf (r 0 1 (omega arith)) ∙ page-count
+    count-is = ap numberOf (r 0 1 (omega (arith, list-long from all))) ∙ page-count
 
     pub entries-are : entriesIn answer ≡ map entryPage one
     entries-are =
-        ap (readEntries answer firstEntry) count-is ∙ same-entries answer (identifyPage from all) r firstEntry (length one) (omega (arith, one-few)) ∙ page-entries
+        ap (readEntries answer firstEntry) count-is ∙ same-entries answer (identifyPage from all) r firstEntry (length one) (omega (arith, one-few, list-long from all)) ∙ page-entries
 
     -- a full answer
     module _ (full : identifyEntries ≤ length listed) where
@@ -262,10 +262,6 @@ module _ (all : List Attributes) (from : ℕ) (o : Ordered 0 all) where
 
 -- ---- one answer after another
 
-map-more : (xs ys : List Attributes) → map entryPage (xs ++ ys) ≡ map entryPage xs ++ map entryPage ys
-map-more [] ys = refl
-map-more (a ∷ xs) ys = ap (_∷_ (entryPage a)) (map-more xs ys)
-
 -- each ask was answered with the page that is asked for
 abbrev pub Answers : List Attributes → List Ask → Type 0
 Answers all [] = Unit {0}
@@ -315,7 +311,7 @@ module _ (all : List Attributes) (o : Ordered 0 all) where
       ap₂ _++_
       (entries-are all from o (a .answer) (read from a b more h (r .0)))
       (gathers (nextIn (a .answer)) (b ∷ more) (tests from a b more h (r .0) .2) (r .1) t ∙ ap (map entryPage) (next from a b more h (r .0)))
-      ∙ sym (map-more (take identifyEntries (shown from all)) (drop identifyEntries (shown from all)))
+      ∙ sym (map-append entryPage (take identifyEntries (shown from all)) (drop identifyEntries (shown from all)))
       ∙ ap (map entryPage) (take-append-drop identifyEntries (shown from all))
 
   pub each-once : (from : ℕ) (entries : List (List ℕ)) → entries ≡ map entryPage (shown from all) → EachOnce all from entries

@@ -9,13 +9,13 @@ use native.Mathlib.Nat.{add-zero, sub-zero, suc-sub-suc}
 use borrow.Author.Tests.{leb-true, le-leb, lt-leb}
 use lib.Dec.{leb}
 use lib.ListN.{length, take, length-append, length-take}
-use lib.Seq.{sets}
+use lib.Seq.{sets, take-nil}
 use Rattle.octets.specs.Octets.{bytesOf}
 use Rattle.octets.specs.Pages.{Field, puts, place, tidy, Fit, readings, values}
 use Rattle.octets.proofs.JoinedTests.{both}
 use Rattle.octets.proofs.Runs.{sets-comm}
 use Rattle.octets.proofs.Pages.{made-onto, read-back, puts-more}
-use Rattle.octets.proofs.Pages.{length-puts}
+use Rattle.octets.proofs.Pages.{length-puts, length-place}
 use Rattle.record.specs.declared.Attributes.{Attributes}
 use Rattle.pages.specs.Bodies.{Sized, AllSized}
 use Rattle.pages.specs.Identify.{identifySize, entrySize, firstEntry, identifyEntries, shownIf, shown, inOneAnswer, entryFields, entriesAt, identifyFields, identifyPage, Shows}
@@ -98,10 +98,6 @@ taken-first : (b : Bool) (a : Attributes) (others : List Attributes) (n : ℕ) �
 taken-first true a others (suc n) h = rw (suc-sub-suc n 0, sub-zero)
 taken-first false a others n h = rw sub-zero
 
-taken-none : (from n : ℕ) → take n (shown from []) ≡ []
-taken-none from zero = refl
-taken-none from (suc n) = refl
-
 module _ (page₀ : List ℕ) (from : ℕ) (all : List Attributes) where
   pub show-start : Showing page₀ from all page₀ firstEntry all
   show-start = record { spare = identifyEntries; long = refl; room = refl; count = refl; same = refl }
@@ -134,13 +130,18 @@ module _ (page₀ : List ℕ) (from : ℕ) (all : List Attributes) where
   -- none is left: those of one answer are shown
   pub show-end : (page : List ℕ) (to : ℕ) → Showing page₀ from all page to []
       → (to ≡ firstEntry + entrySize * length (inOneAnswer from all)) × (page ≡ puts page₀ (entriesAt firstEntry (inOneAnswer from all)))
-  show-end page to s = let e = taken-none from (s .spare) in (omega (arith, ap length e, s .count), rw e at (s .same))
+  show-end page to s = let e : take (s .spare) (shown from []) ≡ [] = take-nil (s .spare) in (omega (arith, ap length e, s .count), rw e at (s .same))
 
   -- the page is full: so they are
   pub show-full : (page : List ℕ) (to : ℕ) (left : List Attributes) → identifySize ≤ to → Showing page₀ from all page to left → Showing page₀ from all page to []
   show-full page to left h s =
       let e : s .spare ≡ 0 = omega (arith, s .room) in
       record { spare = 0; long = s .long; room = rw e at (s .room); count = rw e at (s .count); same = rw e at (s .same) }
+
+-- how long Identify's page is
+pub list-long : (from : ℕ) (all : List Attributes) → identifySize ≡ length (identifyPage from all)
+unfolding identifyPage
+list-long from all = sym (length-place identifySize (identifyFields (inOneAnswer from all)))
 
 -- the fields of an answer stand in order
 fields-tidy : (from : ℕ) (all : List Attributes) → tidy 0 identifySize (identifyFields (inOneAnswer from all)) ≡ true

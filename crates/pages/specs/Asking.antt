@@ -52,6 +52,9 @@ pub record Ask : Type 0 where
   pub from : ℕ
   pub answer : List ℕ
 
+abbrev pub askOf : ℕ → List ℕ → Ask
+askOf from answer = record { from = from; answer = answer }
+
 -- the first ask is from a number, and each other "from the last identifier plus one" of the answer before it, which was not the last
 abbrev pub asksFrom : ℕ → List Ask → Bool
 asksFrom from [] = true

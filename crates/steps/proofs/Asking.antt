@@ -1,5 +1,5 @@
 -- Identify asked again: no item changes a set's attributes, so the answers are parts of one list.
-use mathlib.Core.Path.{_≡_, refl, ap, ap₂, _∙_}
+use mathlib.Core.Path.{_≡_, refl, ap, ap₂, subst, _∙_}
 use mathlib.Core.Bool.{Bool, true, false, not, _&&_, false≢true}
 use mathlib.Core.List.{List, [], _∷_, _++_, map}
 use mathlib.Core.Logic.{_⊎_, inl, inr, ⊎-elim}
@@ -20,20 +20,19 @@ use Rattle.record.specs.Legal.{numberMaximum}
 use Rattle.replies.specs.Numbers.{success}
 use Rattle.replies.specs.Answers.{Answer, granted}
 use Rattle.table.specs.Table.{legalSets}
-use Rattle.pages.specs.Identify.{identifySize, inOneAnswer, identifyFields, identifyPage}
-use Rattle.pages.specs.Asking.{nextIn, isLast, Ask, asksFrom, through, asksMost}
+use Rattle.pages.specs.Identify.{identifySize, identifyPage}
+use Rattle.pages.specs.Asking.{nextIn, isLast, Ask, askOf, asksFrom, through, asksMost}
 use Rattle.pages.proofs.Asking as pages
-use Rattle.octets.proofs.Pages.{length-place}
 use Rattle.commands.specs.declared.Kind.{Kind}
 use Rattle.commands.specs.declared.Kind.the-variants.{SetNotices, SetConfig, SetWindow, GetNotices, GetConfig, GetWindow, ReadLatency, ReadAggregate, EventRequest, Identify}
 use Rattle.commands.specs.Commands.{commandSize, bits, asked, commandIn}
 use Rattle.commands.specs.Shapes.{identifyOpcode, setListCns, kindBy, kindOf}
-use Rattle.steps.specs.Items.{Card, Item, reads, writes, excursion, tick, command, Nobody}
-use Rattle.steps.specs.Commanded.{attributesOf, viewed, meaningBy, commandMeaning}
-use Rattle.steps.specs.Meanings.{meaning}
+use Rattle.steps.specs.Items.{Card, Item, reads, writes, excursion, tick, command}
+use Rattle.steps.specs.Commanded.{attributesOf}
 use Rattle.steps.specs.Card.{concerns, ruled, touched, refusalOf, answer, step}
 use Rattle.steps.specs.Edges.{commandOf}
 use Rattle.steps.specs.Asking.{isSetList, askIn, asks, AskingGives, AsksList, AskAnswered, identifyFrom, hostAsks, EachSetOnce}
+use Rattle.steps.proofs.CommandIs.{command-is}
 use Rattle.steps.proofs.Slots.{ordered}
 use Rattle.steps.proofs.ExactRefusals.{not-refused}
 use Rattle.steps.proofs.IdleRefuted.{id-fits}
@@ -77,39 +76,24 @@ is-identify ReadAggregate h = absurd (false≢true h)
 is-identify EventRequest h = absurd (false≢true h)
 is-identify Identify h = refl
 
-meaning-identify :
-    (bytes given : List ℕ) (room : ℕ) → kindOf (commandIn bytes) ≡ Identify
-    → meaning (command bytes given room) ≡ Nobody (viewed Identify (commandIn bytes) (length given) room)
-unfolding meaning commandMeaning
-meaning-identify bytes given room k = ap (λ (x : Kind). meaningBy x (commandIn bytes) given room) k
-
 identify-answer :
     (c : Card) (bytes given : List ℕ) (room : ℕ) → kindOf (commandIn bytes) ≡ Identify → refusalOf c (command bytes given room) ≡ 0
     → answer c (command bytes given room) ≡ granted 0 (identifyPage (asked (commandIn bytes)) (attributesOf (c .sets)))
 unfolding answer refusalOf
-identify-answer c bytes given room k h = let m = meaning-identify bytes given room k in rw (m, rw m at h)
+identify-answer c bytes given room k h = let m = command-is bytes given room Identify k in rw (m, rw m at h)
 
-page-long : (from : ℕ) (all : List Attributes) → length (identifyPage from all) ≡ identifySize
-unfolding identifyPage
-page-long from all = length-place identifySize (identifyFields (inOneAnswer from all))
-
--- bytes that read as those of an answer do, as far as they go
-abbrev pub ReadsAs : List ℕ → List ℕ → Type 0
-ReadsAs came bytes = (at n : ℕ) → at + n ≤ length bytes → part came at n ≡ part bytes at n
-
-module _ (c : Card) (bytes given : List ℕ) (room : ℕ) (came : List ℕ) (r : ReadsAs came (answer c (command bytes given room) .bytes)) where
+module _ (c : Card) (bytes given : List ℕ) (room : ℕ) (came : List ℕ) (r : pages.Reads came (answer c (command bytes given room) .bytes)) where
   asked-by : (b : Bool) → isSetList (kindOf (commandIn bytes)) && eqb (answer c (command bytes given room) .status) success ≡ b
-      → pages.Answers (attributesOf (c .sets)) (if b then record { from = asked (commandIn bytes); answer = came } ∷ [] else [])
+      → pages.Answers (attributesOf (c .sets)) (if b then askOf (asked (commandIn bytes)) came ∷ [] else [])
   asked-by false e = tt
   asked-by true e =
       let t = both (isSetList (kindOf (commandIn bytes))) _ e in
       let s : answer c (command bytes given room) .status ≡ 0 = eqb-true (answer c (command bytes given room) .status) success (t .1) in
       let a = identify-answer c bytes given room (is-identify (kindOf (commandIn bytes)) (t .0)) (not-refused c (command bytes given room) s) in
       let page : answer c (command bytes given room) .bytes ≡ identifyPage (asked (commandIn bytes)) (attributesOf (c .sets)) = ap (λ (x : Answer). x .bytes) a in
-      let long : length (answer c (command bytes given room) .bytes) ≡ identifySize = ap length page ∙ page-long (asked (commandIn bytes)) (attributesOf (c .sets)) in
-      (λ at n h. r at n (omega (arith, long)) ∙ ap (λ (l : List ℕ). part l at n) page, tt)
+      (subst (pages.Reads came) page r, tt)
 
-pub ask-reads : (c : Card) (i : Item) (came : List ℕ) → ReadsAs came (answer c i .bytes) → pages.Answers (attributesOf (c .sets)) (askIn i (answer c i .status) came)
+pub ask-reads : (c : Card) (i : Item) (came : List ℕ) → pages.Reads came (answer c i .bytes) → pages.Answers (attributesOf (c .sets)) (askIn i (answer c i .status) came)
 ask-reads c (reads id k) came r = tt
 ask-reads c (writes id k) came r = tt
 ask-reads c (excursion id) came r = tt
@@ -152,7 +136,7 @@ module _ (bytes : List ℕ) (room : ℕ) (a : AsksList bytes room) where
   list-done : (c : Card) (given : List ℕ) → refusalOf c (command bytes given room) ≡ 0
   unfolding refusalOf kindBy
   list-done c given =
-      rw (meaning-identify bytes given room list-kind, list-whole, a .identifies, a .lists-sets, le-ltb room identifySize (a .roomy), le-ltb (length given) 0 (omega arith))
+      rw (command-is bytes given room Identify list-kind, list-whole, a .identifies, a .lists-sets, le-ltb room identifySize (a .roomy), le-ltb (length given) 0 (omega arith))
 
 pub ask-answered : AskAnswered
 ask-answered c bytes given room a = ap (λ (x : Answer). x .status) (identify-answer c bytes given room (list-kind bytes room a) (list-done bytes room a c given))
@@ -162,9 +146,12 @@ ask-answered c bytes given room a = ap (λ (x : Answer). x .status) (identify-an
 abbrev identifyCommand : ℕ → List ℕ
 identifyCommand from = commandOf identifyOpcode setListCns from 0
 
+from-asks : (from : ℕ) → AsksList (identifyCommand from) identifySize
+unfolding commandIn
+from-asks from = record { whole = refl; identifies = refl; lists-sets = refl; roomy = omega arith }
+
 from-kind : (from : ℕ) → kindOf (commandIn (identifyCommand from)) ≡ Identify
-unfolding commandIn kindBy
-from-kind from = refl
+from-kind from = list-kind (identifyCommand from) identifySize (from-asks from)
 
 from-asked : (from : ℕ) → from ≤ numberMaximum → asked (commandIn (identifyCommand from)) ≡ from
 unfolding commandIn
@@ -172,20 +159,16 @@ from-asked from h =
     let e : numberOf (bytesOf 4 from) ≡ from = number-bytes 4 from ∙ mod-eq-of-lt (omega arith) in
     ap (bits 15 0) e ∙ omega arith
 
-from-done : (c : Card) (from : ℕ) → refusalOf c (identifyFrom from) ≡ 0
-unfolding refusalOf meaning commandMeaning commandIn kindBy
-from-done c from = refl
-
 from-page : (c : Card) (from : ℕ) → from ≤ numberMaximum → answer c (identifyFrom from) ≡ granted 0 (identifyPage from (attributesOf (c .sets)))
 from-page c from h =
-    identify-answer c (identifyCommand from) [] identifySize (from-kind from) (from-done c from)
+    identify-answer c (identifyCommand from) [] identifySize (from-kind from) (list-done (identifyCommand from) identifySize (from-asks from) c [])
     ∙ ap (λ (n : ℕ). granted 0 (identifyPage n (attributesOf (c .sets)))) (from-asked from h)
 
 -- the ask that it is
-abbrev askOf : Card → ℕ → Ask
-askOf c from = record { from = from; answer = answer c (identifyFrom from) .bytes }
+abbrev theAsk : Card → ℕ → Ask
+theAsk c from = askOf from (answer c (identifyFrom from) .bytes)
 
-one-ask : (c : Card) (from : ℕ) → from ≤ numberMaximum → askIn (identifyFrom from) (answer c (identifyFrom from) .status) (answer c (identifyFrom from) .bytes) ≡ askOf c from ∷ []
+one-ask : (c : Card) (from : ℕ) → from ≤ numberMaximum → askIn (identifyFrom from) (answer c (identifyFrom from) .status) (answer c (identifyFrom from) .bytes) ≡ theAsk c from ∷ []
 one-ask c from h = rw (from-kind from, ap (λ (a : Answer). a .status) (from-page c from h), from-asked from h)
 
 more-asks : (from : ℕ) (a : Ask) (ds : List Ask) → eqb (a .from) from ≡ true → isLast (a .answer) ≡ false → asksFrom (nextIn (a .answer)) ds ≡ true
@@ -212,8 +195,8 @@ module _ (n from : ℕ) (a : Ask) (e : eqb (a .from) from ≡ true) where
 host-by : (b : Bool) (n : ℕ) (c : Card) (from : ℕ) (later : List Item) → isLast (answer c (identifyFrom from) .bytes) ≡ b → from ≤ numberMaximum
     → (b ≡ false → Asked n (nextIn (answer c (identifyFrom from) .bytes)) (asks (λ i. true) (step c (identifyFrom from) .card) later))
     → Asked (suc n) from (asks (λ i. true) c (identifyFrom from ∷ (if b then [] else later)))
-host-by true n c from later e h p = rw (one-ask c from h) (asked-last n from (askOf c from) (eq-eqb from from refl) e)
-host-by false n c from later e h p = rw (one-ask c from h) (asked-more n from (askOf c from) (eq-eqb from from refl) _ e (p refl))
+host-by true n c from later e h p = rw (one-ask c from h) (asked-last n from (theAsk c from) (eq-eqb from from refl) e)
+host-by false n c from later e h p = rw (one-ask c from h) (asked-more n from (theAsk c from) (eq-eqb from from refl) _ e (p refl))
 
 host : (n : ℕ) (c : Card) (from : ℕ) → pages.Ordered 0 (attributesOf (c .sets)) → from ≤ numberMaximum → Asked n from (asks (λ i. true) c (hostAsks n c from))
 host zero c from o h = record { right = refl; ended = inr refl }

@@ -1,4 +1,5 @@
 pub mod ItemShapes
+pub mod CommandIs
 pub mod Slots
 pub mod AtDesk
 pub mod EdgesHold

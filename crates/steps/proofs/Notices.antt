@@ -1,5 +1,5 @@
 -- 02, "Wake the host": what is promised of notices.
-use mathlib.Core.Path.{_≡_, refl, sym, ap, subst, _∙_}
+use mathlib.Core.Path.{_≡_, refl, sym, ap, _∙_}
 use mathlib.Core.Bool.{Bool, true, false, not, _&&_, _||_, or-false, false≢true}
 use mathlib.Core.List.{List, [], _∷_, _++_, append-nil, append-assoc}
 use mathlib.Core.Logic.{_⊎_, inl, inr, ⊎-elim}
@@ -9,26 +9,27 @@ use borrow.Author.Tests.{eqb-true, eq-eqb, not-true}
 use lib.Dec.{eqb}
 use lib.ListN.{length}
 use Rattle.octets.specs.Choice.{if_then_else_}
-use Rattle.octets.proofs.JoinedTests.{both, together, second-false}
+use Rattle.octets.proofs.JoinedTests.{both, together}
 use Rattle.replies.specs.Numbers.{success, requestWaits}
 use Rattle.replies.specs.declared.Notice.{Notice}
 use Rattle.replies.specs.declared.Notice.the-variants.{Unsent, To}
 use Rattle.replies.specs.Answers.{granted, toldOf}
-use Rattle.desk.specs.Desk.{Desk, turned, waits, ready, send, raisedBy, legalDesk}
+use Rattle.desk.specs.Desk.{Desk, turned, waits, ready, raisedBy, legalDesk}
 use Rattle.desk.proofs.Sending.{Sent, Unsent′, sent, send-on, oldest, unserved}
 use Rattle.table.specs.Table.{legalSets, newly}
 use Rattle.commands.specs.declared.Command.{Command}
 use Rattle.commands.specs.declared.Kind.{Kind}
 use Rattle.commands.specs.declared.Kind.the-variants.{SetNotices, SetConfig, SetWindow, GetNotices, GetConfig, GetWindow, ReadLatency, ReadAggregate, EventRequest, Identify}
-use Rattle.commands.specs.Commands.{commandIn, retain, turnsOn}
+use Rattle.commands.specs.Commands.{commandIn, turnsOn}
 use Rattle.commands.specs.Shapes.{kindOf}
 use Rattle.steps.specs.Items.{Card, Item, reads, writes, excursion, tick, command, Nobody}
 use Rattle.steps.specs.Commanded.{noticesNo, viewed, meaningBy, commandMeaning}
 use Rattle.steps.specs.Meanings.{meaning}
-use Rattle.steps.specs.Card.{refusalOf, setsAfter, deskOn, atDesk, after, answer, step, run, notices}
+use Rattle.steps.specs.Card.{refusalOf, setsAfter, deskOn, atDesk, after, answer, run, notices}
 use Rattle.steps.specs.Rows.{carriedOut}
 use Rattle.steps.specs.Demands.{carriedCommand, carriedStatus}
-use Rattle.steps.specs.Notices.{legalCard, CardKept, requestOf, requestIn, acceptedBy, accepted, InTurn, lists, liftsBy, readsListed, lifts, noneLifts, Sends, SentOnly, Holds, HeldElse, listsSome, Heard, NoListingUnheard, ServedAtOnce, Woken, OneAtMost, turnsNotices, noneTurns, OnlySetTurns, NoticesStored}
+use Rattle.steps.specs.Notices.{legalCard, CardKept, requestOf, requestIn, acceptedBy, accepted, InTurn, lists, liftsBy, readsListed, lifts, noneLifts, Sends, SentOnly, Holds, HeldElse, Heard, NoListingUnheard, ServedAtOnce, Woken, OneAtMost, turnsNotices, noneTurns, OnlySetTurns, NoticesStored}
+use Rattle.steps.proofs.CommandIs.{command-is}
 use Rattle.steps.proofs.ItemShapes.{bool-cases}
 use Rattle.steps.proofs.Slots.{refused-answer, refused-sets}
 use Rattle.steps.proofs.KeptLegal.{sets-kept}
@@ -391,11 +392,6 @@ run-on (i ∷ is) c h =
     let b = both (not (turnsNotices i && carriedOut (answer c i .status))) _ h in
     let g : turnsNotices i && eqb (refusalOf c i) 0 ≡ false = rw (← number-tells c i) (not-true (turnsNotices i && carriedOut (answer c i .status)) (b .0)) in
     run-on is (after c i) (b .1) ∙ on-kept c i g
-
-module _ (bytes given : List ℕ) (room : ℕ) (k : Kind) (e : kindOf (commandIn bytes) ≡ k) where
-  command-is : meaning (command bytes given room) ≡ meaningBy k (commandIn bytes) given room
-  unfolding meaning commandMeaning
-  command-is = rw e
 
 turned-on : (c : Card) (bytes given : List ℕ) (room : ℕ) → kindOf (commandIn bytes) ≡ SetNotices → refusalOf c (command bytes given room) ≡ 0
     → after c (command bytes given room) .desk .on ≡ turnsOn (commandIn bytes)

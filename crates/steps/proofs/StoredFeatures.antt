@@ -48,6 +48,7 @@ use Rattle.steps.specs.Demands.{stores13, configures, noneConfigures, Co
 use Rattle.steps.specs.Rows.{carriedOut}
 use Rattle.steps.proofs.ExactRefusals.{number-tells, not-refused}
 use Rattle.octets.proofs.Lists.{first-map, first-passes}
+use Rattle.steps.proofs.CommandIs.{command-is}
 use Rattle.steps.proofs.ItemShapes.{bool-cases, touched-own, touched-not, keeps}
 use Rattle.steps.proofs.OwnHistory.{has-same}
 
@@ -222,11 +223,6 @@ later (i ∷ is) c id r f e h =
     record { found = l .found; there = l .there; kept = then-kept (r .state) (touched n i r .state) (l .found .state) k (l .kept) }
 
 -- ---- a command that names a set and succeeds
-
-module _ (bytes given : List ℕ) (room : ℕ) (k : Kind) (e : kindOf (commandIn bytes) ≡ k) where
-  command-is : meaning (command bytes given room) ≡ meaningBy k (commandIn bytes) given room
-  unfolding meaning commandMeaning
-  command-is = rw e
 
 -- its set is in the table
 record Found (x : Option Record) (o : One) : Type 0 where

@@ -13,7 +13,7 @@ use Rattle.record.specs.Legal.{numberMaximum}
 use Rattle.replies.specs.Numbers.{success}
 use Rattle.table.specs.Table.{legalSets, maxSets}
 use Rattle.pages.specs.Identify.{identifySize}
-use Rattle.pages.specs.Asking.{nextIn, isLast, Ask, asksFrom, through, gathered, EachOnce, asksMost, GivesEach}
+use Rattle.pages.specs.Asking.{nextIn, isLast, Ask, askOf, asksFrom, through, gathered, EachOnce, asksMost, GivesEach}
 use Rattle.commands.specs.declared.Command.{Command}
 use Rattle.commands.specs.declared.Kind.{Kind}
 use Rattle.commands.specs.Commands.{commandSize, commandIn, opcode, chosen, asked}
@@ -31,7 +31,7 @@ isSetList k = hasOpcode identifyOpcode k && hasChoice setListCns k
 
 -- the ask that an item is, where it was answered with success: the number from which it asks, and the bytes that came
 abbrev pub askBy : Kind → Command → ℕ → List ℕ → List Ask
-askBy k c status came = if isSetList k && eqb status success then record { from = asked c; answer = came } ∷ [] else []
+askBy k c status came = if isSetList k && eqb status success then askOf (asked c) came ∷ [] else []
 
 abbrev pub askIn : Item → ℕ → List ℕ → List Ask
 askIn (reads id k) status came = []

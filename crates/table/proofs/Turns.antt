@@ -2,10 +2,10 @@
 use mathlib.Core.Path.{_≡_, refl, sym, ap, _∙_}
 use mathlib.Core.Bool.{Bool, true, false}
 use mathlib.Core.List.{List, [], _∷_, map}
-use Prim.Native.Nat.{ℕ, zero, suc, _+_, _-_, _*_, _%_, _^_, _≤_, _<_}
+use Prim.Native.Nat.{ℕ, suc, _+_, _-_, _*_, _%_, _^_, _≤_, _<_}
 use native.Mathlib.Omega.{arith}
 use native.Mathlib.Numerals.{add-one}
-use native.Mathlib.Nat.{add-zero, zero-add, sub-zero, pow-suc, pow-le-pow-right, lt-of-lt-of-le}
+use native.Mathlib.Nat.{add-zero, sub-zero, pow-suc, pow-le-pow-right, lt-of-lt-of-le}
 use lib.Dec.{lit<, lit≤}
 use lib.ListN.{getD, drop}
 use lib.Seq.{getD-take, getD-drop}
@@ -134,18 +134,8 @@ pub gathered-fits : (ws : List ℕ) → Legal ws → (i word k : ℕ) → k ≤ 
 gathered-fits ws l i word k h g =
     let m : count ws - i ≤ maxSets - k = omega (arith, l .few) in lt-of-lt-of-le (g .small) (pow-le-pow-right (lit< tt) m)
 
--- ---- the identifiers
+-- ---- an identifier: a row's first word has it
 
-ids-from : (ws : List ℕ) (slot n i : ℕ) → i < n → getD (map idOf (map recordOf (rowsFrom ws slot n))) i 0 ≡ idOf (recordOf (row ws (slot + i)))
-ids-from ws slot zero i h = absurd (omega arith)
-ids-from ws slot (suc n) zero h = rw add-zero
-ids-from ws slot (suc n) (suc i) h = let e : suc slot + i ≡ slot + suc i = omega arith in rw (← e) (ids-from ws (suc slot) n i (omega arith))
-
-pub ids-at : (ws : List ℕ) (i : ℕ) → i < count ws → idOf (recordOf (row ws i)) ≡ getD (map idOf (recordsOf ws)) i 0
-unfolding recordsOf
-ids-at ws i h = ap (λ (k : ℕ). idOf (recordOf (row ws k))) (sym (zero-add i)) ∙ sym (ids-from ws 0 (count ws) i h)
-
--- a row's first word has it
 pub id-of : (ws : List ℕ) (i : ℕ) → getD ws (rowStart i) 0 % 2 ^ 16 ≡ idOf (recordOf (row ws i))
 unfolding recordOf
 id-of ws i = ap (λ (n : ℕ). n % 2 ^ 16) (ap (λ (k : ℕ). getD ws k 0) (sym (add-zero (rowStart i))) ∙ sym (at-row ws i 0 (lit< tt)))

@@ -7,7 +7,6 @@ use Rattle.octets.specs.Octets.{bytesOf}
 use Rattle.record.specs.Parts.{idOf}
 use Rattle.table.specs.Layout.{recordOf}
 use Rattle.table.specs.Table.{row}
-use Rattle.table.proofs.Turns.{ids-at}
 use Rattle.pages.specs.Aggregate.{listedSize}
 use Rattle.card.proofs.views.put_next.Statement.{statement}
 use Rattle.card.proofs.views.put_next.Tie as tie
@@ -20,7 +19,7 @@ put-next-spec =
     (λ c κs.
     let slot = c .before in
     let s = slot .before .before .before in
-    omega (arith, s .pre .0 .room, s .pre .1, slot .lowest .ensures))
+    omega (arith, s .pre .0, slot .lowest .ensures))
     (λ c κs. search needs) (λ c. search needs)
     (λ c.
     let put = c .before .before in
@@ -29,4 +28,4 @@ put-next-spec =
     let s = slot .before .before .before in
     put .put-listed .ensures
     ∙ ap (λ (n : ℕ). sets (s .args .page .now) (s .args .to) (bytesOf listedSize n))
-    (id .id-of .ensures ∙ ap (λ (k : ℕ). idOf (recordOf (row (s .args .table .now) k))) (slot .lowest .ensures) ∙ ids-at (s .args .table .now) _ (s .pre .1))))
+    (id .id-of .ensures ∙ ap (λ (k : ℕ). idOf (recordOf (row (s .args .table .now) k))) (slot .lowest .ensures))))

@@ -6,7 +6,8 @@ use Rattle.region.specs.Region.{tableIn}
 use Rattle.commands.specs.declared.Kind.the-variants.{Identify}
 use Rattle.by_value.proofs.Passed.{view-fine}
 use Rattle.by_value.proofs.NamedCommands.{answered-bad}
-use Rattle.by_value.proofs.Viewed.{unqueued, viewed-refused, identified, list-long}
+use Rattle.pages.proofs.Entries.{list-long}
+use Rattle.by_value.proofs.Viewed.{unqueued, viewed-refused, identified}
 use Rattle.card_c.proofs.commanded.answer_identify.Statement.{statement}
 use Rattle.card_c.proofs.commanded.answer_identify.Tie as tie
 

@@ -7,10 +7,8 @@ use Rattle.octets.specs.Octets.{bytesOf}
 use Rattle.record.specs.Parts.{idOf}
 use Rattle.table.specs.Layout.{recordOf}
 use Rattle.table.specs.Table.{row}
-use Rattle.table.proofs.Turns.{ids-at}
 use Rattle.pages.specs.Aggregate.{listedSize}
 use Rattle.region.specs.Region.{tableIn}
-use Rattle.region.proofs.Words.{length-in}
 use Rattle.card_c.proofs.views.put_next.Statement.{statement}
 use Rattle.card_c.proofs.views.put_next.Tie as tie
 
@@ -22,7 +20,7 @@ put-next-spec =
     (λ c κs.
     let slot = c .before in
     let s = slot .before .before .before in
-    omega (arith, s .pre .0 .room, s .pre .1, slot .lowest .ensures, length-in (s .args .region .now)))
+    omega (arith, s .pre .0, slot .lowest .ensures))
     (λ c κs. search needs) (λ c. search needs)
     (λ c.
     let put = c .before .before in
@@ -31,4 +29,4 @@ put-next-spec =
     let s = slot .before .before .before in
     put .put-listed .ensures
     ∙ ap (λ (n : ℕ). sets (s .args .page .now) (s .args .to) (bytesOf listedSize n))
-    (id .id-of .ensures ∙ ap (λ (k : ℕ). idOf (recordOf (row (tableIn (s .args .region .now)) k))) (slot .lowest .ensures) ∙ ids-at (tableIn (s .args .region .now)) _ (s .pre .1))))
+    (id .id-of .ensures ∙ ap (λ (k : ℕ). idOf (recordOf (row (tableIn (s .args .region .now)) k))) (slot .lowest .ensures))))
