@@ -9,19 +9,21 @@ use lib.Dec.{ltb}
 use borrow.Author.Tests.{ltb-true, ltb-false}
 use lib.Count.{ones}
 use lib.ListN.{length, getD, length-map}
+use lib.Seq.{sets}
 use Rattle.octets.specs.Lists.{nth}
+use Rattle.octets.specs.Octets.{bytesOf}
 use Rattle.octets.specs.Pages.{puts}
 use Rattle.octets.proofs.JoinedTests.{both}
 use Rattle.record.specs.declared.Attributes.{Attributes}
 use Rattle.record.specs.declared.Record.{Record}
 use Rattle.record.specs.Parts.{idOf}
 use Rattle.table.specs.Layout.{recordOf}
-use Rattle.table.specs.Table.{count, row, recordsOf, Legal, listedMarks, listedWord, maxSets}
+use Rattle.table.specs.Table.{count, rowStart, row, recordsOf, Legal, listedMarks, listedWord, maxSets}
 use Rattle.table.proofs.LegalTables.{length-records}
 use Rattle.table.proofs.Turns.{later, later-none, later-more, later-all}
-use Rattle.pages.specs.Aggregate.{listedBy, firstListed, entriesFrom, countPage, aggregatePage}
+use Rattle.pages.specs.Aggregate.{listedBy, lowestOne, withoutLowest, aggregateSize, firstListed, listedSize, entriesFrom, countPage, aggregatePage}
 use Rattle.pages.specs.Identify.{identifySize, entrySize, firstEntry, Shows}
-use Rattle.pages.proofs.Listed.{word-below, one-word, page-is}
+use Rattle.pages.proofs.Listed.{word-below, one-word, page-is, Left, left-start, left-within, left-room, left-less, left-turn, left-end}
 use Rattle.pages.proofs.Entries.{Showing, show-start, show-room, show-turn, show-end, show-full}
 use Rattle.steps.specs.Commanded.{listedIds, attributesOf}
 use Rattle.steps.proofs.StepOnWords.{record-at}
@@ -38,14 +40,14 @@ id-there (x ∷ rs) zero r e = let q : x ≡ r = cc in ap idOf (sym q)
 id-there (x ∷ rs) (suc k) r e = id-there rs k r e
 
 -- the identifier in a slot
-pub ids-at : (ws : List ℕ) (k : ℕ) → k < count ws → idOf (recordOf (row ws k)) ≡ getD (setIds ws) k 0
+ids-at : (ws : List ℕ) (k : ℕ) → k < count ws → idOf (recordOf (row ws k)) ≡ getD (setIds ws) k 0
 ids-at ws k h = id-there (recordsOf ws) k (recordOf (row ws k)) (record-at ws k h)
 
-pub ids-many : (ws : List ℕ) → length (setIds ws) ≡ count ws
+ids-many : (ws : List ℕ) → length (setIds ws) ≡ count ws
 ids-many ws = simp length-map (length-records ws)
 
 module _ (ws : List ℕ) (l : Legal ws) where
-  pub ids-few : length (setIds ws) ≤ maxSets
+  ids-few : length (setIds ws) ≤ maxSets
   ids-few = omega (arith, l .few, ids-many ws)
 
   module _ (word : ℕ) (ew : word ≡ listedWord (recordsOf ws)) where
@@ -53,17 +55,49 @@ module _ (ws : List ℕ) (l : Legal ws) where
     marks-many = simp length-map
 
     -- no mark past the last set
-    pub word-small : word < 2 ^ length (setIds ws)
+    word-small : word < 2 ^ length (setIds ws)
     word-small = rw (ew, ← marks-many) (word-below (listedMarks (recordsOf ws)))
 
     -- what the word lists
-    pub word-lists : listedBy word (setIds ws) ≡ listedIds (recordsOf ws)
+    word-lists : listedBy word (setIds ws) ≡ listedIds (recordsOf ws)
     word-lists = rw ew (one-word (setIds ws) (listedMarks (recordsOf ws)) (simp length-map))
 
     pub aggregate-is : (p q : List ℕ) → p ≡ countPage (ones word) → q ≡ puts p (entriesFrom firstListed (listedIds (recordsOf ws))) → q ≡ aggregatePage (listedIds (recordsOf ws))
     aggregate-is p q ep eq =
         page-is (setIds ws) p q word (ones word) word-small refl ep (eq ∙ ap (λ (ids : List ℕ). puts p (entriesFrom firstListed ids)) (sym word-lists))
         ∙ ap aggregatePage word-lists
+
+    -- the loop that lists: what stands on the page, and which marks are left
+    module _ (page₀ : List ℕ) where
+      abbrev pub Listing : List ℕ → ℕ → ℕ → Type 0
+      Listing page left to = Left (setIds ws) page₀ word page left to
+
+      pub listing-start : aggregateSize ≤ length page₀ → Listing page₀ word firstListed
+      listing-start = left-start (setIds ws) page₀ word ids-few word-small
+
+      module _ (page : List ℕ) (left to : ℕ) (more : 0 < left) (g : Listing page left to) where
+        within : lowestOne left < count ws
+        within = omega (arith, ids-many ws, left-within (setIds ws) page₀ word ids-few page left to more g)
+
+        pub listing-row : rowStart (lowestOne left + 1) ≤ length ws
+        listing-row = omega (arith, within, l .room)
+
+        pub listing-room : to + listedSize ≤ length page
+        listing-room = left-room (setIds ws) page₀ word ids-few page left to more g
+
+        pub listing-less : (next : ℕ) → next ≡ withoutLowest left → next < left
+        listing-less = left-less (setIds ws) page₀ word ids-few page left to more g
+
+        pub listing-on : (after : List ℕ) (next : ℕ) → next ≡ withoutLowest left
+            → after ≡ sets page to (bytesOf listedSize (idOf (recordOf (row ws (lowestOne left))))) → Listing after next (to + listedSize)
+        listing-on after next en ea =
+            left-turn (setIds ws) page₀ word ids-few page left to more g after next en
+            (ea ∙ ap (λ (n : ℕ). sets page to (bytesOf listedSize n)) (ids-at ws (lowestOne left) within))
+
+      pub listing-end : (page : List ℕ) (left to : ℕ) → left ≤ 0 → Listing page left to
+          → page ≡ puts page₀ (entriesFrom firstListed (listedIds (recordsOf ws)))
+      listing-end page left to h g =
+          left-end (setIds ws) page₀ word ids-few page left to h g ∙ ap (λ (ids : List ℕ). puts page₀ (entriesFrom firstListed ids)) word-lists
 
 -- ---- Identify
 
