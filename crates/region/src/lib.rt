@@ -23,6 +23,7 @@ use record::Slot;
 use replies::Notice;
 use table::Entry;
 use table::Found;
+use table::LOOKS;
 use table::layout::DESK_START;
 use table::layout::HEADER;
 use table::layout::LAYOUT;
@@ -245,18 +246,26 @@ pub fn id_of(bytes: &[u8], slot: Slot) -> SetId
     SetId((id_at(bytes, i) % 65536) as u16)
 }
 
+// By halves, as `table::find`.
 pub fn find(bytes: &[u8], id: SetId) -> Found
     requires { ⌜ Legal (tableIn (now bytes)) ⌝ }
     ensures { λ r. ⌜ r ≡ findIn (tableIn (now (bytes .entry))) (id .0) ⌝ }
 {
-    let n = count_of(bytes);
     let want = id.0 as u64;
-    let mut i = 0;
-    while i < n {
-        if id_at(bytes, i) == want {
-            return Found::At(Slot(i));
+    let mut slot = 0;
+    let mut left = count_of(bytes);
+    let mut looks = LOOKS;
+    while (1 < left) & (1 < looks) {
+        let half = left / 2;
+        let middle = slot + half;
+        if id_at(bytes, middle) <= want {
+            slot = middle;
         }
-        i += 1;
+        left -= half;
+        looks -= 1;
+    }
+    if id_at(bytes, slot) == want {
+        return Found::At(Slot(slot));
     }
     Found::Nothing
 }

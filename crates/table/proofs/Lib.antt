@@ -5,6 +5,7 @@ pub mod Slots
 pub mod LegalTables
 pub mod WordsFit
 pub mod Turns
+pub mod Search
 pub mod Desks
 pub mod Written
 pub mod PastTheTable

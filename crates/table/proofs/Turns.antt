@@ -61,26 +61,6 @@ module _ (ws : List ℕ) (l : Legal ws) (i : ℕ) (h : i < count ws) where
   pub listed-at : getD ws (rowStart i + 23) 0 ≡ bit (recordOf (row ws i) .notes .listed)
   listed-at = sym (at-row ws i 23 (lit< tt)) ∙ listed-word (row ws i) (slot-known ws l i h)
 
--- ---- the search
-
--- what a search from slot i on finds
-abbrev pub searched : List ℕ → ℕ → ℕ → ℕ → Found
-searched ws id n i = findFrom id i (map recordOf (rowsFrom ws i (n - i)))
-
-pub search-start : (ws : List ℕ) (id n : ℕ) → n ≡ count ws → searched ws id n 0 ≡ findIn ws id
-unfolding findIn recordsOf
-search-start ws id n e = rw (e, sub-zero)
-
-module _ (ws : List ℕ) (l : Legal ws) (id n i : ℕ) (en : n ≡ count ws) where
-  pub search-end : n ≤ i → searched ws id n i ≡ Nothing
-  search-end h = rw (rows-none ws n i h)
-
-  pub search-here : i < n → getD ws (rowStart i) 0 ≡ id → searched ws id n i ≡ At (record { 0 = i })
-  search-here h e = rw (rows-more ws n i h, eq-eqb (idOf (recordOf (row ws i))) id (sym (id-at ws l i (omega arith)) ∙ e))
-
-  pub search-on : i < n → (getD ws (rowStart i) 0 ≡ id → ⊥) → searched ws id n i ≡ searched ws id n (i + 1)
-  search-on h e = rw (rows-more ws n i h, ne-eqb (idOf (recordOf (row ws i))) id (λ q. e (id-at ws l i (omega arith) ∙ q)), add-one)
-
 -- ---- the word of listed marks, gathered from the last slot to the first
 
 -- the records from slot i on

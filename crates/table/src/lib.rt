@@ -31,6 +31,9 @@ use replies::Notice;
 
 pub const MAX_SETS: usize = 64;
 
+// So many looks at identifiers find a set among as many sets, or that it is not there: six halve them to one, which the last is at.
+pub const LOOKS: usize = 7;
+
 pub enum Found {
     At(Slot),
     Nothing,
@@ -222,18 +225,28 @@ pub fn id_of(table: &[u64], slot: Slot) -> SetId
     SetId((table[HEADER + i * ROW] % 65536) as u16)
 }
 
+// The search goes by halves, since identifiers rise. From `slot` on so many slots are left as may hold the set: those below it have
+// smaller identifiers, those after them larger ones. Each turn looks at the middle one and leaves the half that it tells of, the
+// larger one where they are unlike; the last look is at the slot that is left.
 pub fn find(table: &[u64], id: SetId) -> Found
     requires { ⌜ Legal (now table) ⌝ }
     ensures { λ r. ⌜ r ≡ findIn (now (table .entry)) (id .0) ⌝ }
 {
-    let n = to_size(table[1]);
     let want = id.0 as u64;
-    let mut i = 0;
-    while i < n {
-        if table[HEADER + i * ROW] == want {
-            return Found::At(Slot(i));
+    let mut slot = 0;
+    let mut left = to_size(table[1]);
+    let mut looks = LOOKS;
+    while (1 < left) & (1 < looks) {
+        let half = left / 2;
+        let middle = slot + half;
+        if table[HEADER + middle * ROW] <= want {
+            slot = middle;
         }
-        i += 1;
+        left -= half;
+        looks -= 1;
+    }
+    if table[HEADER + slot * ROW] == want {
+        return Found::At(Slot(slot));
     }
     Found::Nothing
 }

@@ -1,19 +1,19 @@
-use mathlib.Core.Path.{_≡_, sym, _∙_}
-use Prim.Native.Nat.{_-_, _≤_}
+use mathlib.Core.Path.{sym, _∙_}
+use mathlib.Core.Logic.{⊎-elim}
 use native.Mathlib.Omega.{arith}
 use borrow.Author.Needs.{needs}
-use Rattle.table.specs.Table.{count, findIn}
-use Rattle.table.proofs.Turns.{searched, search-start, search-end, search-here, search-on}
+use lib.Dec.{lit≤}
+use Rattle.table.proofs.Search.{Searching, search-start, search-up, search-down, search-here, search-nowhere}
 use Rattle.region.specs.Region.{tableIn}
 use Rattle.region.proofs.Words.{length-in}
 use Rattle.region.proofs.find.Statement.{statement}
 use Rattle.region.proofs.find.Tie as tie
 
 abbrev Inv-loop : tie.InvT-loop
-Inv-loop bytes n want i₀ i = (i ≤ n) × (n ≡ count (tableIn bytes)) × (searched (tableIn bytes) want n i ≡ findIn (tableIn bytes) want)
+Inv-loop bytes want slot₀ left₀ looks₀ slot left looks = Searching (tableIn bytes) want slot left looks
 
 abbrev μ-loop : tie.MeasureT-loop
-μ-loop bytes n want i₀ i = n - i
+μ-loop bytes want slot₀ left₀ looks₀ slot left looks = looks
 
 pub find-spec : {M : Type 1} → statement M
 find-spec =
@@ -21,24 +21,30 @@ find-spec =
     (tie.spec
     Inv-loop
     μ-loop
-    (λ c κs. let s = c .before in omega (arith, s .pre .some, s .pre .room, length-in (s .args .bytes .now)))
     (λ c. search needs)
-    (λ c. let w = c .before .count-of .ensures in (search needs, w, search-start _ _ _ w))
+    (λ c κs. let s = c .before .before in omega (arith, s .pre .some, s .pre .room, length-in (s .args .bytes .now)))
+    (λ c. search-start _ (c .before .before .before .pre) _ _ _ (c .count-of .ensures) (lit≤ tt) (lit≤ tt))
+    (λ c. search needs)
     (λ c κs.
     let s = c .before .before .before .before .before in
-    omega (arith, c .loop-test .taken, c .before .loop .inv .1, s .pre .room, length-in (s .args .bytes .now)))
+    omega (arith, c .before .loop .inv .some, c .before .loop .inv .inside, s .pre .room, length-in (s .args .bytes .now)))
+    (λ c. search needs) (λ c. search needs) (λ c. search needs)
     (λ c.
     let t = c .before .before in
     let l = t .before .loop in
     let s = t .before .before .before .before .before in
-    sym (search-here (tableIn (s .args .bytes .now)) (s .pre) (s .args .id .0) _ (l .i) (l .inv .1) (t .loop-test .taken) (sym (c .before .id-at .ensures) ∙ c .if1 .taken)) ∙ l .inv .2)
-    (λ c. search needs) (λ c. search needs)
-    (λ c.
-    let t = c .before .before in
-    let l = t .before .loop in
-    let s = t .before .before .before .before .before in
-    (search needs, l .inv .1, sym (search-on (tableIn (s .args .bytes .now)) (s .pre) (s .args .id .0) _ (l .i) (l .inv .1) (t .loop-test .taken) (λ e. c .if1 .left (c .before .id-at .ensures ∙ e))) ∙ l .inv .2))
-    (λ c.
-    let l = c .before .loop in
+    let e = c .before .id-at .ensures in
+    ⊎-elim
+    (λ w. rw (w .1) (search-up _ (s .pre) _ _ _ _ (l .inv) (t .loop-test .taken) (rw e at (w .0 .taken))))
+    (λ w. rw (w .1) (search-down _ (s .pre) _ _ _ _ (l .inv) (t .loop-test .taken) (rw e at (w .0 .left))))
+    (c .if1 .came))
+    (λ c κs.
     let s = c .before .before .before .before .before in
-    sym (search-end (tableIn (s .args .bytes .now)) (s .pre) (s .args .id .0) _ (l .i) (l .inv .1) (c .loop-test .left)) ∙ l .inv .2))
+    omega (arith, c .before .loop .inv .some, c .before .loop .inv .inside, s .pre .room, length-in (s .args .bytes .now)))
+    (λ c.
+    let t = c .before .before in
+    search-here _ (t .before .before .before .before .before .pre) _ _ _ _ (t .before .loop .inv) (sym (c .before .id-at2 .ensures) ∙ c .if2 .taken))
+    (λ c.
+    let t = c .before .before in
+    search-nowhere _ (t .before .before .before .before .before .pre) _ _ _ _ (t .before .loop .inv) (t .loop-test .left)
+    (λ e. c .if2 .left (c .before .id-at2 .ensures ∙ e))))

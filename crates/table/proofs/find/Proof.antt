@@ -1,16 +1,15 @@
-use mathlib.Core.Path.{_≡_, sym, _∙_}
-use Prim.Native.Nat.{_-_, _≤_}
+use mathlib.Core.Logic.{⊎-elim}
 use borrow.Author.Needs.{needs}
-use Rattle.table.specs.Table.{count, findIn}
-use Rattle.table.proofs.Turns.{searched, search-start, search-end, search-here, search-on}
+use lib.Dec.{lit≤}
+use Rattle.table.proofs.Search.{Searching, search-start, search-up, search-down, search-here, search-nowhere}
 use Rattle.table.proofs.find.Statement.{statement}
 use Rattle.table.proofs.find.Tie as tie
 
 abbrev Inv-loop : tie.InvT-loop
-Inv-loop table n want i₀ i = (i ≤ n) × (n ≡ count table) × (searched table want n i ≡ findIn table want)
+Inv-loop table want slot₀ left₀ looks₀ slot left looks = Searching table want slot left looks
 
 abbrev μ-loop : tie.MeasureT-loop
-μ-loop table n want i₀ i = n - i
+μ-loop table want slot₀ left₀ looks₀ slot left looks = looks
 
 pub find-spec : {M : Type 1} → statement M
 find-spec =
@@ -18,23 +17,22 @@ find-spec =
     (tie.spec
     Inv-loop
     μ-loop
-    (λ c. search needs) (λ c κs. search needs) (λ c. search needs)
+    (λ c. search needs) (λ c. search needs) (λ c κs. search needs)
+    (λ c. search-start _ (c .before .before .before .before .pre) _ _ _ (c .to-size .ensures) (lit≤ tt) (lit≤ tt))
+    (λ c. search needs) (λ c. search needs) (λ c. search needs) (λ c. search needs) (λ c. search needs) (λ c. search needs) (λ c. search needs)
+    (λ c. search needs)
     (λ c.
-    let w = c .before .to-size .ensures in
-    (search needs, w, search-start _ _ _ w))
+    let t = c .before .before in
+    let l = t .before .loop in
+    let s = t .before .before .before .before .before .before in
+    ⊎-elim
+    (λ w. rw (w .1) (search-up _ (s .pre) _ _ _ _ (l .inv) (t .loop-test .taken) (w .0 .taken)))
+    (λ w. rw (w .1) (search-down _ (s .pre) _ _ _ _ (l .inv) (t .loop-test .taken) (w .0 .left)))
+    (c .if1 .came))
     (λ c. search needs) (λ c. search needs) (λ c. search needs) (λ c. search needs)
     (λ c.
     let t = c .before .before in
-    let l = t .before .loop in
-    let s = t .before .before .before .before .before .before in
-    sym (search-here (s .args .table .now) (s .pre) (s .args .id .0) _ (l .i) (l .inv .1) (t .loop-test .taken) (c .if1 .taken)) ∙ l .inv .2)
-    (λ c. search needs) (λ c. search needs)
+    search-here _ (t .before .before .before .before .before .before .pre) _ _ _ _ (t .before .loop .inv) (c .if2 .taken))
     (λ c.
     let t = c .before .before in
-    let l = t .before .loop in
-    let s = t .before .before .before .before .before .before in
-    (search needs, l .inv .1, sym (search-on (s .args .table .now) (s .pre) (s .args .id .0) _ (l .i) (l .inv .1) (t .loop-test .taken) (c .if1 .left)) ∙ l .inv .2))
-    (λ c.
-    let l = c .before .loop in
-    let s = c .before .before .before .before .before .before in
-    sym (search-end (s .args .table .now) (s .pre) (s .args .id .0) _ (l .i) (l .inv .1) (c .loop-test .left)) ∙ l .inv .2))
+    search-nowhere _ (t .before .before .before .before .before .before .pre) _ _ _ _ (t .before .loop .inv) (t .loop-test .left) (c .if2 .left)))
