@@ -255,15 +255,16 @@ pub fn find(bytes: &[u8], id: SetId) -> Found
     let mut slot = 0;
     let mut left = count_of(bytes);
     let mut looks = LOOKS;
-    while (1 < left) & (1 < looks) {
+    while 1 < left {
         let half = left / 2;
         let middle = slot + half;
+        looks -= 1;
         if id_at(bytes, middle) <= want {
             slot = middle;
         }
         left -= half;
-        looks -= 1;
     }
+    looks -= 1;
     if id_at(bytes, slot) == want {
         return Found::At(Slot(slot));
     }

@@ -1,15 +1,14 @@
 -- The search by halves: a legal table's identifiers rise, so that a look at the middle one tells of a half of the slots.
 use mathlib.Core.Path.{_≡_, refl, sym, ap, _∙_}
-use mathlib.Core.Bool.{Bool, true, false, _&&_}
+use mathlib.Core.Bool.{true}
 use mathlib.Core.List.{List, [], _∷_, map}
 use mathlib.Core.Logic.{⊎-elim}
 use Prim.Native.Nat.{ℕ, zero, suc, _+_, _-_, _*_, _/_, _^_, _≤_, _<_}
 use native.Mathlib.Omega.{arith}
 use native.Mathlib.Nat.{zero-add, add-zero, not-suc-le-zero, eq-or-lt-of-le, pow-suc}
-use borrow.Author.Tests.{ltb-true, ltb-false, eq-eqb, ne-eqb}
-use lib.Dec.{ltb}
+use borrow.Author.Tests.{ltb-true, eq-eqb, ne-eqb}
 use lib.ListN.{length, getD}
-use Rattle.octets.proofs.JoinedTests.{both, second-false}
+use Rattle.octets.proofs.JoinedTests.{both}
 use Rattle.record.specs.Parts.{idOf}
 use Rattle.table.specs.declared.Found.the-variants.{At, Nothing}
 use Rattle.table.specs.Layout.{recordOf}
@@ -70,15 +69,18 @@ pub record Searching (ws : List ℕ) (id slot left looks : ℕ) : Type 0 where
   pub below : (k : ℕ) → k < slot → idAt ws k < id
   pub above : (k : ℕ) → slot + left ≤ k → k < count ws → id < idAt ws k
 
+-- more than one slot is left, so that more than one look is
+looks-more : (left looks : ℕ) → left ≤ 2 ^ (looks - 1) → 1 < left → 1 < looks
+looks-more left zero f h = omega (arith, f, h)
+looks-more left (suc zero) f h = omega (arith, f, h)
+looks-more left (suc (suc m)) f h = omega arith
+
 -- a half, the larger one, is at most half of what so many looks can tell of
 half-few : (left looks : ℕ) → 1 < looks → left ≤ 2 ^ (looks - 1) → left - left / 2 ≤ 2 ^ (looks - 1 - 1)
 half-few left looks h f =
     let e : looks - 1 ≡ suc (looks - 1 - 1) = omega arith in
     let g : left ≤ 2 ^ (looks - 1 - 1) * 2 = rw (e, pow-suc) at f in
     omega (arith, g)
-
-one-left : (left looks : ℕ) → left ≤ 2 ^ (looks - 1) → looks ≤ 1 → left ≤ 1
-one-left left looks f h = let e : looks - 1 ≡ 0 = omega arith in rw e at f
 
 module _ (ws : List ℕ) (l : Legal ws) where
   row-id : (k : ℕ) → k < count ws → rowId (rows ws) k ≡ idAt ws k
@@ -101,33 +103,36 @@ module _ (ws : List ℕ) (l : Legal ws) where
       }
 
   module _ (id slot left looks : ℕ) (s : Searching ws id slot left looks) where
-    module _ (t : ltb 1 left && ltb 1 looks ≡ true) where
-      two-left : (1 < left) × (1 < looks)
-      two-left = let b = both (ltb 1 left) _ t in (ltb-true 1 left (b .0), ltb-true 1 looks (b .1))
+    pub slot-inside : slot < count ws
+    slot-inside = omega (arith, s .some, s .inside)
 
-      pub middle-inside : slot + left / 2 < count ws
-      middle-inside = omega (arith, s .some, s .inside)
+    pub middle-inside : slot + left / 2 < count ws
+    middle-inside = omega (arith, s .some, s .inside)
 
-      -- its identifier is not above the one that is looked for: the slots below it are out
+    module _ (t : 1 < left) where
+      more : 1 < looks
+      more = looks-more left looks (s .few) t
+
+      -- the middle one's identifier is not above the one that is looked for: the slots below it are out
       pub search-up : idAt ws (slot + left / 2) ≤ id → Searching ws id (slot + left / 2) (left - left / 2) (looks - 1)
       search-up h =
           record {
             some = omega (arith, s .some);
             inside = omega (arith, s .inside);
-            last = omega (arith, two-left .1);
-            few = half-few left looks (two-left .1) (s .few);
+            last = omega (arith, more);
+            few = half-few left looks more (s .few);
             below = λ k b. omega (arith, h, ids-rise k (slot + left / 2) b middle-inside);
             above = λ k b m. s .above k (omega (arith, b)) m;
           }
 
-      -- it is above: it is out, and all that follow
+      -- it is above: the slots from it on are out
       pub search-down : id < idAt ws (slot + left / 2) → Searching ws id slot (left - left / 2) (looks - 1)
       search-down h =
           record {
             some = omega (arith, s .some);
             inside = omega (arith, s .inside);
-            last = omega (arith, two-left .1);
-            few = half-few left looks (two-left .1) (s .few);
+            last = omega (arith, more);
+            few = half-few left looks more (s .few);
             below = s .below;
             above = λ k b m.
                 ⊎-elim (λ e. rw (← e) h) (λ j. omega (arith, h, ids-rise (slot + left / 2) k j m)) (eq-or-lt-of-le (middle-below k b));
@@ -136,27 +141,16 @@ module _ (ws : List ℕ) (l : Legal ws) where
           middle-below : (k : ℕ) → slot + (left - left / 2) ≤ k → slot + left / 2 ≤ k
           middle-below k b = omega arith
 
-    pub slot-inside : slot < count ws
-    slot-inside = omega (arith, s .some, s .inside)
-
     pub search-here : idAt ws slot ≡ id → At (record { 0 = slot }) ≡ findIn ws id
     unfolding findIn recordsOf
     search-here e =
         sym (find-hit id 0 slot (rows ws) (omega (arith, length-rows ws 0 (count ws), slot-inside)) (λ j h q. omega (arith, s .below j h, row-id j (omega (arith, slot-inside, h)), q)) (row-id slot slot-inside ∙ e) ∙ ap (λ (k : ℕ). At (record { 0 = k })) (zero-add slot))
 
-    -- the turns are over: one slot is left
-    ended : ltb 1 left && ltb 1 looks ≡ false → left ≤ 1
-    ended t = by (ltb 1 left) refl
-      where
-        by : (b : Bool) → ltb 1 left ≡ b → left ≤ 1
-        by true e = one-left left looks (s .few) (ltb-false 1 looks (second-false (ltb 1 left) _ e t))
-        by false e = ltb-false 1 left e
-
-    pub search-nowhere : ltb 1 left && ltb 1 looks ≡ false → (idAt ws slot ≡ id → ⊥) → Nothing ≡ findIn ws id
+    pub search-nowhere : left ≤ 1 → (idAt ws slot ≡ id → ⊥) → Nothing ≡ findIn ws id
     unfolding findIn recordsOf
     search-nowhere t n = sym (find-miss id 0 (rows ws) (λ j h q. none j (omega (arith, length-rows ws 0 (count ws))) q))
       where
         none : (j : ℕ) → j < count ws → rowId (rows ws) j ≡ id → ⊥
         none j h q =
             let e : idAt ws j ≡ id = sym (row-id j h) ∙ q in
-            ⊎-elim (λ b. omega (arith, s .below j b, e)) (λ b. omega (arith, s .above j (omega (arith, ended t)) h, e)) (lt-or-gt j slot (λ z. n (rw z at e)))
+            ⊎-elim (λ b. omega (arith, s .below j b, e)) (λ b. omega (arith, s .above j (omega arith) h, e)) (lt-or-gt j slot (λ z. n (rw z at e)))

@@ -236,15 +236,16 @@ pub fn find(table: &[u64], id: SetId) -> Found
     let mut slot = 0;
     let mut left = to_size(table[1]);
     let mut looks = LOOKS;
-    while (1 < left) & (1 < looks) {
+    while 1 < left {
         let half = left / 2;
         let middle = slot + half;
+        looks -= 1;
         if table[HEADER + middle * ROW] <= want {
             slot = middle;
         }
         left -= half;
-        looks -= 1;
     }
+    looks -= 1;
     if table[HEADER + slot * ROW] == want {
         return Found::At(Slot(slot));
     }

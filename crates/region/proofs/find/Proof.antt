@@ -3,7 +3,7 @@ use mathlib.Core.Logic.{⊎-elim}
 use native.Mathlib.Omega.{arith}
 use borrow.Author.Needs.{needs}
 use lib.Dec.{lit≤}
-use Rattle.table.proofs.Search.{Searching, search-start, search-up, search-down, search-here, search-nowhere}
+use Rattle.table.proofs.Search.{Searching, middle-inside, slot-inside, search-start, search-up, search-down, search-here, search-nowhere}
 use Rattle.region.specs.Region.{tableIn}
 use Rattle.region.proofs.Words.{length-in}
 use Rattle.region.proofs.find.Statement.{statement}
@@ -24,11 +24,11 @@ find-spec =
     (λ c. search needs)
     (λ c κs. let s = c .before .before in omega (arith, s .pre .some, s .pre .room, length-in (s .args .bytes .now)))
     (λ c. search-start _ (c .before .before .before .pre) _ _ _ (c .count-of .ensures) (lit≤ tt) (lit≤ tt))
-    (λ c. search needs)
+    (λ c. search needs) (λ c. search needs)
     (λ c κs.
     let s = c .before .before .before .before .before in
-    omega (arith, c .before .loop .inv .some, c .before .loop .inv .inside, s .pre .room, length-in (s .args .bytes .now)))
-    (λ c. search needs) (λ c. search needs) (λ c. search needs)
+    omega (arith, middle-inside _ (s .pre) _ _ _ _ (c .before .loop .inv), s .pre .room, length-in (s .args .bytes .now)))
+    (λ c. search needs) (λ c. search needs)
     (λ c.
     let t = c .before .before in
     let l = t .before .loop in
@@ -38,9 +38,10 @@ find-spec =
     (λ w. rw (w .1) (search-up _ (s .pre) _ _ _ _ (l .inv) (t .loop-test .taken) (rw e at (w .0 .taken))))
     (λ w. rw (w .1) (search-down _ (s .pre) _ _ _ _ (l .inv) (t .loop-test .taken) (rw e at (w .0 .left))))
     (c .if1 .came))
+    (λ c. search needs)
     (λ c κs.
     let s = c .before .before .before .before .before in
-    omega (arith, c .before .loop .inv .some, c .before .loop .inv .inside, s .pre .room, length-in (s .args .bytes .now)))
+    omega (arith, slot-inside _ (s .pre) _ _ _ _ (c .before .loop .inv), s .pre .room, length-in (s .args .bytes .now)))
     (λ c.
     let t = c .before .before in
     search-here _ (t .before .before .before .before .before .pre) _ _ _ _ (t .before .loop .inv) (sym (c .before .id-at2 .ensures) ∙ c .if2 .taken))

@@ -29,7 +29,7 @@ find-spec =
     (λ w. rw (w .1) (search-up _ (s .pre) _ _ _ _ (l .inv) (t .loop-test .taken) (w .0 .taken)))
     (λ w. rw (w .1) (search-down _ (s .pre) _ _ _ _ (l .inv) (t .loop-test .taken) (w .0 .left)))
     (c .if1 .came))
-    (λ c. search needs) (λ c. search needs) (λ c. search needs) (λ c. search needs)
+    (λ c. search needs) (λ c. search needs) (λ c. search needs) (λ c. search needs) (λ c. search needs)
     (λ c.
     let t = c .before .before in
     search-here _ (t .before .before .before .before .before .before .pre) _ _ _ _ (t .before .loop .inv) (c .if2 .taken))
