@@ -1,21 +1,23 @@
-//! Times each function of libcard_c.a against the baseline, alternating in one process, and prints a Markdown table.
+//! Times each function of libcard_c.a against the baseline, alternating in one process, and prints a Markdown table; then the search
+//! for a set by itself (search.rs).
 //!
 //! Each call gets a table of its own in the state that the case is about, since many calls change it; the tables are renewed
 //! outside the timed part. A row is the median of several runs, and says between what its ratios lay.
 
 mod baseline;
 mod card_c;
+mod search;
+mod tables;
 
 use model::commands::{
     ASYNCHRONOUS_EVENT_REQUEST, CONFIGURATION, EVENT_NOTICES, GET_FEATURES, GET_LOG_PAGE, IDENTIFY, LIST_PAGE, NOTICES_BIT,
     SET_FEATURES, SET_LIST, SET_PAGE, WINDOW,
 };
-use model::layout::table_bytes;
-use model::set::DAY;
 use model::status;
 use std::ptr;
 use std::time::Instant;
-use trials::entries::{Entries, MODEL};
+use tables::{bodies, command_of, configuration, median, prepared, Others, State, MIDDLE};
+use trials::entries::Entries;
 
 const BATCH: usize = 32;
 /// How many batches make a round at most; of large tables there are fewer, so that a round takes about as long.
@@ -23,27 +25,6 @@ const BATCHES: usize = 200;
 const SETS_IN_A_ROUND: usize = 3_200;
 const ROUNDS: usize = 21;
 const RUNS: usize = 5;
-const RECOVERY: u32 = 20;
-
-/// The state of the named set before the timed call.
-#[derive(Clone, Copy)]
-enum State {
-    /// In D, and charges that do not drive it out.
-    InD,
-    /// In N, with its time spent.
-    Recovered,
-    /// In N, with events and listed.
-    Listed,
-    /// In D, with notices on and a request that waits: an event completes it.
-    Awaited,
-}
-
-/// The other sets: all as the named one is, or some off, some in D and some in N, so that a branch by the window is not foreseen.
-#[derive(Clone, Copy)]
-enum Others {
-    Alike,
-    Mixed,
-}
 
 /// What is timed.
 #[derive(Clone, Copy)]
@@ -61,10 +42,6 @@ struct Case {
     state: State,
     timed: Timed,
 }
-
-/// Feature commands name the set in CDW11 15:0, page 0Ah in 31:16; `MIDDLE` there stands for the set in the middle. What has none of
-/// its bits stands for itself.
-const MIDDLE: u32 = 0x0001_0001;
 
 const fn command(name: &'static str, state: State, opcode: u8, dwords: [u32; 4]) -> Case {
     Case { name, state, timed: Timed::Command { opcode, dwords } }
@@ -107,6 +84,7 @@ fn main() {
         }
     }
     println!("\nmedians of {RUNS} runs of {ROUNDS} rounds each; the highest ratio is {worst:.2}");
+    search::print();
 }
 
 struct Row {
@@ -149,11 +127,6 @@ fn run(bench: &mut Bench) -> (f64, f64) {
     (median(&mut rounds[0]), median(&mut rounds[1]))
 }
 
-fn median(times: &mut [f64]) -> f64 {
-    times.sort_by(f64::total_cmp);
-    times[times.len() / 2]
-}
-
 /// The same functions, but the compiler cannot know which: so it cannot work them out ahead.
 fn opaque(entries: &Entries) -> Entries {
     // A reference may always be read through.
@@ -177,12 +150,12 @@ struct Bench {
 impl Bench {
     fn new(case: &Case, sets: u16, others: Others) -> Bench {
         let set = sets / 2 + 1;
-        let bodies: Vec<u8> = (1..=sets).flat_map(body).collect();
+        let all: Vec<u16> = (1..=sets).collect();
         let (command, status) = match case.timed {
             Timed::Command { opcode, dwords } => (command_of(opcode, dwords, set), status_of(opcode)),
             _ => ([0; 64], status::SUCCESS),
         };
-        let table = prepared(&bodies, sets, set, case.state, others);
+        let table = prepared(&all, set, case.state, others);
         Bench {
             timed: case.timed,
             status,
@@ -190,7 +163,7 @@ impl Bench {
             batches: BATCHES.min(SETS_IN_A_ROUND / usize::from(sets)),
             tables: table.repeat(BATCH),
             table,
-            bodies,
+            bodies: bodies(&all),
             command,
             data: configuration(),
             answer: [0; 4096],
@@ -229,40 +202,6 @@ fn all<'a>(tables: impl Iterator<Item = &'a mut [u8]>, call: impl FnMut(&'a mut 
     tables.map(call).fold(0, |statuses, number| statuses | number)
 }
 
-fn body(set: u16) -> Vec<u8> {
-    let mut body = Vec::new();
-    body.extend(set.to_le_bytes());
-    body.extend(1u16.to_le_bytes());
-    body.extend(100u32.to_le_bytes());
-    body.extend(4096u32.to_le_bytes());
-    body.extend((1u128 << 70).to_le_bytes());
-    body.extend((1u128 << 69).to_le_bytes());
-    for number in [u64::from(u32::MAX), u64::from(u32::MAX), DAY, RECOVERY.into(), 5] {
-        body.extend(number.to_le_bytes());
-    }
-    body
-}
-
-fn configuration() -> [u8; 512] {
-    let mut data = [0; 512];
-    data[0..2].copy_from_slice(&0xC007u16.to_le_bytes());
-    for threshold in data[32..56].chunks_exact_mut(8) {
-        threshold.copy_from_slice(&1_000u64.to_le_bytes());
-    }
-    data
-}
-
-fn command_of(opcode: u8, dwords: [u32; 4], set: u16) -> [u8; 64] {
-    let mut command = [0; 64];
-    command[0] = opcode;
-    let times = if dwords[1] & MIDDLE == 0 { 1 } else { u32::from(set) };
-    let named = [dwords[0], dwords[1] * times, dwords[2], dwords[3]];
-    for (place, dword) in command[40..56].chunks_exact_mut(4).zip(named) {
-        place.copy_from_slice(&dword.to_le_bytes());
-    }
-    command
-}
-
 /// What a command answers that is carried out.
 fn status_of(opcode: u8) -> u16 {
     if opcode == ASYNCHRONOUS_EVENT_REQUEST {
@@ -270,40 +209,4 @@ fn status_of(opcode: u8) -> u16 {
     } else {
         status::SUCCESS
     }
-}
-
-/// The table of a case, made by the model. Of mixed sets one in three is off, one in D and one in N.
-fn prepared(bodies: &[u8], sets: u16, named: u16, state: State, others: Others) -> Vec<u8> {
-    let mut table = vec![0; table_bytes(sets.into())];
-    let mut statuses = (MODEL.set_up)(&mut table, bodies);
-    let alike = |set: u16| set == named || matches!(others, Others::Alike);
-    let is_on = |set: u16| alike(set) || set % 3 != 0;
-    let enters_d = |set: u16| if alike(set) { !matches!(state, State::Recovered) } else { set % 3 == 1 };
-    for set in (1..=sets).filter(|&set| is_on(set)) {
-        statuses |= set_feature(&mut table, CONFIGURATION, set);
-    }
-    statuses |= (MODEL.tick)(&mut table, RECOVERY, &mut [], &mut []);
-    for set in (1..=sets).filter(|&set| is_on(set) && enters_d(set)) {
-        statuses |= set_feature(&mut table, WINDOW, set);
-        if matches!(state, State::Listed) && alike(set) {
-            statuses |= (MODEL.excursion)(&mut table, set, &mut []);
-        }
-    }
-    if matches!(state, State::Awaited) {
-        statuses |= given(&mut table, SET_FEATURES, [EVENT_NOTICES.into(), NOTICES_BIT, 0, 0]);
-        assert_eq!(given(&mut table, ASYNCHRONOUS_EVENT_REQUEST, [0; 4]), status::WAITING, "a request is refused");
-    }
-    assert_eq!(statuses, status::SUCCESS, "the case cannot be prepared");
-    table
-}
-
-/// The model's status of a command that names no set and has no data.
-fn given(table: &mut [u8], opcode: u8, dwords: [u32; 4]) -> u16 {
-    (MODEL.command)(table, &command_of(opcode, dwords, 0), &[], &mut [], &mut [])
-}
-
-/// Set Features with 1 in CDW12: enables the mode, or selects D.
-fn set_feature(table: &mut [u8], fid: u8, set: u16) -> u16 {
-    let command = command_of(SET_FEATURES, [fid.into(), MIDDLE, 1, 0], set);
-    (MODEL.command)(table, &command, &configuration(), &mut [], &mut [])
 }

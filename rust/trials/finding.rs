@@ -25,12 +25,18 @@ const LIMIT: Duration = Duration::from_secs(60);
 const REPLY_BYTES: usize = 16;
 
 /// How the identifiers of so many sets may lie.
-const LAYOUTS: [(&str, fn(usize) -> Vec<u16>); 4] = [
+const LAYOUTS: [(&str, fn(usize) -> Vec<u16>); 5] = [
     ("1, 2, 3 ..", |sets| (1..=sets).map(|slot| slot as u16).collect()),
+    ("1, 2, 3 .. with one left out about the middle", all_but_one),
     ("2, 4, 6 ..", |sets| (1..=sets).map(|slot| 2 * slot as u16).collect()),
     (".. 65,531, 65,533, 65,535", |sets| (0..sets).rev().map(|left| u16::MAX - 2 * left as u16).collect()),
     ("1,000, 1,001, 1,003, 1,006, 2,006 ..", uneven),
 ];
+
+/// From the middle on each set is one slot before the one that its number would have.
+fn all_but_one(sets: usize) -> Vec<u16> {
+    (0..sets).map(|slot| if slot < sets / 2 { slot + 1 } else { slot + 2 }).map(|identifier| identifier as u16).collect()
+}
 
 /// Steps of 1, 2, 3 and 1,000: between two neighbours lie no identifier, one, two, and many.
 fn uneven(sets: usize) -> Vec<u16> {
@@ -54,22 +60,23 @@ enum Place {
     Above,
 }
 
-/// Of each place how often it is named, in the four layouts of 1 to 64 sets together. The sizes add up to 2,080 sets.
+/// Of each place how often it is named, in the five layouts of 1 to 64 sets together. The sizes add up to 2,080 sets.
 /// - Every card has a first set; the 63 of two sets or more have a last one besides. About the middle, and neither, is one set of
 ///   each odd size from 3 to 63 and two of each even size from 4 to 64. All other sets lie elsewhere.
-/// - Below the first are 0; 0 and 1; or 0, 1 and the identifier before it, in each of the last two layouts.
-/// - Between n sets lie none in the first layout, and n - 1 in the second and third: 2,016 each. In the fourth the neighbours that
-///   are named are none, 1, 2 and 2 in turn, thus 5 for each four steps, and 0, 0, 1 or 3 for those left over: for 0 to 63 steps
-///   4 x 5 x (0 + 1 + .. + 15) + 16 x (0 + 0 + 1 + 3) = 2,464.
-/// - Above the last are the identifier after it and 65,535; but none where 65,535 is the last.
+/// - Below the first are 0 in the first two layouts, and of one set in the second also the 1 that is left out; 0 and 1 in the third;
+///   0, 1 and the identifier before it in each of the last two.
+/// - Between n sets lie none in the first layout; in the second, of two sets or more, the one that is left out; n - 1 in the third
+///   and fourth: 2,016 each. In the fifth the neighbours that are named are none, 1, 2 and 2 in turn, thus 5 for each four steps, and
+///   0, 0, 1 or 3 for those left over: for 0 to 63 steps 4 x 5 x (0 + 1 + .. + 15) + 16 x (0 + 0 + 1 + 3) = 2,464.
+/// - Above the last are the identifier after it and 65,535; but none where 65,535 is the last, in the fourth layout.
 const PLACES: [(&str, u64); 7] = [
-    ("found at the first slot", 4 * 64),
-    ("found at the last slot", 4 * 63),
-    ("found about the middle", 4 * (31 + 2 * 31)),
-    ("found elsewhere", 4 * (2_080 - 64 - 63 - 93)),
-    ("absent, below the first", (1 + 2 + 3 + 3) * 64),
-    ("absent, between two", 2_016 + 2_016 + 2_464),
-    ("absent, above the last", (2 + 2 + 2) * 64),
+    ("found at the first slot", 5 * 64),
+    ("found at the last slot", 5 * 63),
+    ("found about the middle", 5 * (31 + 2 * 31)),
+    ("found elsewhere", 5 * (2_080 - 64 - 63 - 93)),
+    ("absent, below the first", (1 + 1 + 2 + 3 + 3) * 64 + 1),
+    ("absent, between two", 63 + 2_016 + 2_016 + 2_464),
+    ("absent, above the last", (2 + 2 + 2 + 2) * 64),
 ];
 
 /// The kinds of items that name a set: "events other than ticks, feature commands and reads of 0Ah".

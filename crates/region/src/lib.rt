@@ -246,27 +246,39 @@ pub fn id_of(bytes: &[u8], slot: Slot) -> SetId
     SetId((id_at(bytes, i) % 65536) as u16)
 }
 
-// By halves, as `table::find`.
+// As `table::find`.
 pub fn find(bytes: &[u8], id: SetId) -> Found
     requires { ⌜ Legal (tableIn (now bytes)) ⌝ }
     ensures { λ r. ⌜ r ≡ findIn (tableIn (now (bytes .entry))) (id .0) ⌝ }
 {
+    let number = id.0 as usize;
     let want = id.0 as u64;
-    let mut slot = 0;
-    let mut left = count_of(bytes);
+    let n = count_of(bytes);
     let mut looks = LOOKS;
-    while 1 < left {
-        let half = left / 2;
-        let middle = slot + half;
+    let mut left = n;
+    if (0 < number) & (number <= n) {
+        let slot = number - 1;
         looks -= 1;
-        if id_at(bytes, middle) <= want {
-            slot = middle;
+        if id_at(bytes, slot) == want {
+            return Found::At(Slot(slot));
         }
-        left -= half;
+        left = slot;
     }
-    looks -= 1;
-    if id_at(bytes, slot) == want {
-        return Found::At(Slot(slot));
+    let mut from = 0;
+    while 0 < left {
+        let half = left / 2;
+        let slot = from + half;
+        looks -= 1;
+        let here = id_at(bytes, slot);
+        if here == want {
+            return Found::At(Slot(slot));
+        }
+        if here < want {
+            from = slot + 1;
+            left = left - half - 1;
+        } else {
+            left = half;
+        }
     }
     Found::Nothing
 }

@@ -1,12 +1,13 @@
--- The search by halves: a legal table's identifiers rise, so that a look at the middle one tells of a half of the slots.
+-- The search for a set: a legal table's identifiers rise from 1, so that a look at one tells of the slots on one side of it.
 use mathlib.Core.Path.{_≡_, refl, sym, ap, _∙_}
-use mathlib.Core.Bool.{true}
+use mathlib.Core.Bool.{true, _&&_}
 use mathlib.Core.List.{List, [], _∷_, map}
 use mathlib.Core.Logic.{⊎-elim}
 use Prim.Native.Nat.{ℕ, zero, suc, _+_, _-_, _*_, _/_, _^_, _≤_, _<_}
 use native.Mathlib.Omega.{arith}
 use native.Mathlib.Nat.{zero-add, add-zero, not-suc-le-zero, eq-or-lt-of-le, pow-suc}
-use borrow.Author.Tests.{ltb-true, eq-eqb, ne-eqb}
+use borrow.Author.Tests.{ltb-true, leb-true, eq-eqb, ne-eqb}
+use lib.Dec.{ltb, leb}
 use lib.ListN.{length, getD}
 use Rattle.octets.proofs.JoinedTests.{both}
 use Rattle.record.specs.Parts.{idOf}
@@ -23,9 +24,10 @@ use Rattle.table.proofs.Turns.{id-at}
 abbrev rowId : List (List ℕ) → ℕ → ℕ
 rowId rs k = idOf (recordOf (getD rs k []))
 
-above : (p k : ℕ) (rs : List (List ℕ)) → legalRows p rs ≡ true → k < length rs → p < rowId rs k
+-- each is above the one before it, and the first above p
+above : (p k : ℕ) (rs : List (List ℕ)) → legalRows p rs ≡ true → k < length rs → p + k < rowId rs k
 above p k [] h l = absurd (not-suc-le-zero l)
-above p zero (a ∷ rs) h l = ltb-true p _ (both (legalRow a) _ (both (legalAfter p a) _ h .0) .1)
+above p zero (a ∷ rs) h l = omega (arith, ltb-true p _ (both (legalRow a) _ (both (legalAfter p a) _ h .0) .1))
 above p (suc k) (a ∷ rs) h l =
     let t = both (legalAfter p a) _ h in
     omega (arith, ltb-true p _ (both (legalRow a) _ (t .0) .1), above (idOf (recordOf a)) k rs (t .1) (omega arith))
@@ -33,7 +35,7 @@ above p (suc k) (a ∷ rs) h l =
 rise : (p j k : ℕ) (rs : List (List ℕ)) → legalRows p rs ≡ true → j < k → k < length rs → rowId rs j < rowId rs k
 rise p j k [] h l m = absurd (not-suc-le-zero m)
 rise p j zero (a ∷ rs) h l m = absurd (not-suc-le-zero l)
-rise p zero (suc k) (a ∷ rs) h l m = above (idOf (recordOf a)) k rs (both (legalAfter p a) _ h .1) (omega arith)
+rise p zero (suc k) (a ∷ rs) h l m = omega (arith, above (idOf (recordOf a)) k rs (both (legalAfter p a) _ h .1) (omega arith))
 rise p (suc j) (suc k) (a ∷ rs) h l m = rise (idOf (recordOf a)) j k rs (both (legalAfter p a) _ h .1) (omega arith) (omega arith)
 
 -- ---- what a search that starts at the first slot finds
@@ -53,34 +55,36 @@ find-miss id i [] n = refl
 find-miss id i (a ∷ rs) n =
     rw (ne-eqb (idOf (recordOf a)) id (n 0 (omega arith))) (find-miss id (suc i) rs (λ j h. n (suc j) (omega arith)))
 
+-- an identifier that is neither the one that is looked for nor below it
+pub not-below : {here id : ℕ} → (here ≡ id → ⊥) → id ≤ here → id < here
+not-below n h = ⊎-elim (λ e. absurd (n (sym e))) (λ l. l) (eq-or-lt-of-le h)
+
 -- ---- the slots of a legal table
 
 -- the identifier's word of a slot
 abbrev pub idAt : List ℕ → ℕ → ℕ
 idAt ws k = getD ws (rowStart k) 0
 
--- Of so many slots from `slot` on one may hold the identifier, and no other can. So many looks tell which: each but the last halves
--- the slots.
-pub record Searching (ws : List ℕ) (id slot left looks : ℕ) : Type 0 where
-  pub some : 1 ≤ left
-  pub inside : slot + left ≤ count ws
-  pub last : 1 ≤ looks
-  pub few : left ≤ 2 ^ (looks - 1)
-  pub below : (k : ℕ) → k < slot → idAt ws k < id
-  pub above : (k : ℕ) → slot + left ≤ k → k < count ws → id < idAt ws k
+-- So many slots are left, from `from` on, that may hold the identifier, and no other can. They are so few that so many looks tell
+-- which of them does, since each leaves less than half.
+pub record Searching (ws : List ℕ) (id from left looks : ℕ) : Type 0 where
+  pub inside : from + left ≤ count ws
+  pub below : (k : ℕ) → k < from → idAt ws k < id
+  pub above : (k : ℕ) → from + left ≤ k → k < count ws → id < idAt ws k
+  pub few : left < 2 ^ looks
 
--- more than one slot is left, so that more than one look is
-looks-more : (left looks : ℕ) → left ≤ 2 ^ (looks - 1) → 1 < left → 1 < looks
-looks-more left zero f h = omega (arith, f, h)
-looks-more left (suc zero) f h = omega (arith, f, h)
-looks-more left (suc (suc m)) f h = omega arith
+-- a look is left where a slot is
+look-left : (left looks : ℕ) → left < 2 ^ looks → 0 < left → 1 ≤ looks
+look-left left zero f h = absurd (omega (arith, f, h))
+look-left left (suc m) f h = omega arith
 
--- a half, the larger one, is at most half of what so many looks can tell of
-half-few : (left looks : ℕ) → 1 < looks → left ≤ 2 ^ (looks - 1) → left - left / 2 ≤ 2 ^ (looks - 1 - 1)
-half-few left looks h f =
-    let e : looks - 1 ≡ suc (looks - 1 - 1) = omega arith in
-    let g : left ≤ 2 ^ (looks - 1 - 1) * 2 = rw (e, pow-suc) at f in
-    omega (arith, g)
+-- half as many slots need a look less
+half-few : (left looks : ℕ) → left < 2 ^ looks → 1 ≤ looks → left / 2 < 2 ^ (looks - 1)
+half-few left zero f h = absurd (not-suc-le-zero h)
+half-few left (suc m) f h =
+    let e : suc m - 1 ≡ m = omega arith in
+    let g : left < 2 ^ m * 2 = rw pow-suc at f in
+    rw e (omega (arith, g))
 
 module _ (ws : List ℕ) (l : Legal ws) where
   row-id : (k : ℕ) → k < count ws → rowId (rows ws) k ≡ idAt ws k
@@ -90,67 +94,88 @@ module _ (ws : List ℕ) (l : Legal ws) where
   ids-rise j k h m =
       rw (← row-id j (omega arith), ← row-id k m) (rise 0 j k (rows ws) (rows-known ws l) h (omega (arith, length-rows ws 0 (count ws))))
 
+  -- a slot has an identifier above its number
+  id-above : (k : ℕ) → k < count ws → k < idAt ws k
+  id-above k h =
+      rw (← row-id k h) (omega (arith, above 0 k (rows ws) (rows-known ws l) (omega (arith, length-rows ws 0 (count ws)))))
+
   -- at the start all slots are left, and the looks are enough for as many as there can be
-  pub search-start : (id n looks : ℕ) → n ≡ count ws → 1 ≤ looks → maxSets ≤ 2 ^ (looks - 1) → Searching ws id 0 n looks
-  search-start id n looks e p f =
-      record {
-        some = omega (arith, l .some);
-        inside = omega arith;
-        last = p;
-        few = omega (arith, l .few);
-        below = λ k h. absurd (not-suc-le-zero h);
-        above = λ k h m. omega arith;
-      }
+  pub search-all : (id n looks : ℕ) → n ≡ count ws → maxSets < 2 ^ looks → Searching ws id 0 n looks
+  search-all id n looks e f =
+      record { inside = omega arith; below = λ k h. absurd (not-suc-le-zero h); above = λ k h m. omega arith; few = omega (arith, l .few, f) }
 
-  module _ (id slot left looks : ℕ) (s : Searching ws id slot left looks) where
-    pub slot-inside : slot < count ws
-    slot-inside = omega (arith, s .some, s .inside)
+  -- the look right below the slot of the set's number: the set is there, or in a slot before
+  module _ (id n : ℕ) (en : n ≡ count ws) (h : ltb 0 id && leb id n ≡ true) where
+    pub number-some : 0 < id
+    number-some = ltb-true 0 id (both (ltb 0 id) _ h .0)
 
-    pub middle-inside : slot + left / 2 < count ws
-    middle-inside = omega (arith, s .some, s .inside)
+    pub number-inside : id - 1 < count ws
+    number-inside = omega (arith, number-some, leb-true id n (both (ltb 0 id) _ h .1))
 
-    module _ (t : 1 < left) where
-      more : 1 < looks
-      more = looks-more left looks (s .few) t
+    pub search-number : (looks : ℕ) → (idAt ws (id - 1) ≡ id → ⊥) → maxSets ≤ 2 ^ looks → Searching ws id 0 (id - 1) looks
+    search-number looks q f =
+        record {
+          inside = omega (arith, number-inside);
+          below = λ k b. absurd (not-suc-le-zero b);
+          above = λ k b m.
+              ⊎-elim (λ e. rw (← e) here) (λ j. omega (arith, here, ids-rise (id - 1) k j m)) (eq-or-lt-of-le (up-from k b));
+          few = omega (arith, number-inside, l .few, f);
+        }
+      where
+        up-from : (k : ℕ) → 0 + (id - 1) ≤ k → id - 1 ≤ k
+        up-from k b = omega arith
 
-      -- the middle one's identifier is not above the one that is looked for: the slots below it are out
-      pub search-up : idAt ws (slot + left / 2) ≤ id → Searching ws id (slot + left / 2) (left - left / 2) (looks - 1)
+        here : id < idAt ws (id - 1)
+        here = not-below q (omega (arith, id-above (id - 1) number-inside))
+
+  -- no slot before one that has the identifier has it
+  pub search-here : (id slot : ℕ) → slot < count ws → idAt ws slot ≡ id → At (record { 0 = slot }) ≡ findIn ws id
+  unfolding findIn recordsOf
+  search-here id slot h e =
+      sym (find-hit id 0 slot (rows ws) (omega (arith, length-rows ws 0 (count ws), h)) others (row-id slot h ∙ e) ∙ ap (λ (k : ℕ). At (record { 0 = k })) (zero-add slot))
+    where
+      others : (j : ℕ) → j < slot → rowId (rows ws) j ≡ id → ⊥
+      others j b q = omega (arith, ids-rise j slot b h, row-id j (omega (arith, b, h)), q, e)
+
+  module _ (id from left looks : ℕ) (s : Searching ws id from left looks) where
+    module _ (t : 0 < left) where
+      pub look-more : 1 ≤ looks
+      look-more = look-left left looks (s .few) t
+
+      pub middle-inside : from + left / 2 < count ws
+      middle-inside = omega (arith, t, s .inside)
+
+      -- its identifier is below the one that is looked for: so are those of the slots before it
+      pub search-up :
+          idAt ws (from + left / 2) < id → Searching ws id (from + left / 2 + 1) (left - left / 2 - 1) (looks - 1)
       search-up h =
           record {
-            some = omega (arith, s .some);
-            inside = omega (arith, s .inside);
-            last = omega (arith, more);
-            few = half-few left looks more (s .few);
-            below = λ k b. omega (arith, h, ids-rise k (slot + left / 2) b middle-inside);
-            above = λ k b m. s .above k (omega (arith, b)) m;
-          }
-
-      -- it is above: the slots from it on are out
-      pub search-down : id < idAt ws (slot + left / 2) → Searching ws id slot (left - left / 2) (looks - 1)
-      search-down h =
-          record {
-            some = omega (arith, s .some);
-            inside = omega (arith, s .inside);
-            last = omega (arith, more);
-            few = half-few left looks more (s .few);
-            below = s .below;
-            above = λ k b m.
-                ⊎-elim (λ e. rw (← e) h) (λ j. omega (arith, h, ids-rise (slot + left / 2) k j m)) (eq-or-lt-of-le (middle-below k b));
+            inside = omega (arith, t, s .inside);
+            below = λ k b.
+                ⊎-elim (λ e. rw e h) (λ j. omega (arith, h, ids-rise k (from + left / 2) j middle-inside)) (eq-or-lt-of-le (up-to k b));
+            above = λ k b m. s .above k (omega (arith, t, b)) m;
+            few = omega (arith, half-few left looks (s .few) look-more);
           }
         where
-          middle-below : (k : ℕ) → slot + (left - left / 2) ≤ k → slot + left / 2 ≤ k
-          middle-below k b = omega arith
+          up-to : (k : ℕ) → k < from + left / 2 + 1 → k ≤ from + left / 2
+          up-to k b = omega arith
 
-    pub search-here : idAt ws slot ≡ id → At (record { 0 = slot }) ≡ findIn ws id
-    unfolding findIn recordsOf
-    search-here e =
-        sym (find-hit id 0 slot (rows ws) (omega (arith, length-rows ws 0 (count ws), slot-inside)) (λ j h q. omega (arith, s .below j h, row-id j (omega (arith, slot-inside, h)), q)) (row-id slot slot-inside ∙ e) ∙ ap (λ (k : ℕ). At (record { 0 = k })) (zero-add slot))
+      -- it is above: so are those of the slots after it
+      pub search-down : id < idAt ws (from + left / 2) → Searching ws id from (left / 2) (looks - 1)
+      search-down h =
+          record {
+            inside = omega (arith, s .inside);
+            below = s .below;
+            above = λ k b m. ⊎-elim (λ e. rw (← e) h) (λ j. omega (arith, h, ids-rise (from + left / 2) k j m)) (eq-or-lt-of-le b);
+            few = half-few left looks (s .few) look-more;
+          }
 
-    pub search-nowhere : left ≤ 1 → (idAt ws slot ≡ id → ⊥) → Nothing ≡ findIn ws id
+    pub search-nowhere : left ≤ 0 → Nothing ≡ findIn ws id
     unfolding findIn recordsOf
-    search-nowhere t n = sym (find-miss id 0 (rows ws) (λ j h q. none j (omega (arith, length-rows ws 0 (count ws))) q))
+    search-nowhere t = sym (find-miss id 0 (rows ws) (λ j h q. none j (omega (arith, length-rows ws 0 (count ws))) q))
       where
         none : (j : ℕ) → j < count ws → rowId (rows ws) j ≡ id → ⊥
         none j h q =
             let e : idAt ws j ≡ id = sym (row-id j h) ∙ q in
-            ⊎-elim (λ b. omega (arith, s .below j b, e)) (λ b. omega (arith, s .above j (omega arith) h, e)) (lt-or-gt j slot (λ z. n (rw z at e)))
+            let over : from ≤ j → ⊥ = λ b. omega (arith, s .above j (omega (arith, b, t)) h, e) in
+            ⊎-elim (λ b. omega (arith, s .below j b, e)) (λ b. over (omega (arith, b))) (lt-or-gt j from (λ z. over (omega (arith, z))))

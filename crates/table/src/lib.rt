@@ -31,7 +31,9 @@ use replies::Notice;
 
 pub const MAX_SETS: usize = 64;
 
-// So many looks at identifiers find a set among as many sets, or that it is not there: six halve them to one, which the last is at.
+// So many looks at identifiers find a set among as many, or that it is not there: k of them tell of fewer than 2 ^ k slots. A search
+// counts down what is left of them. A difference that could fall below 0 is refused, so that there is no eighth look; nothing reads the
+// count, so that the compiler leaves it out.
 pub const LOOKS: usize = 7;
 
 pub enum Found {
@@ -225,29 +227,41 @@ pub fn id_of(table: &[u64], slot: Slot) -> SetId
     SetId((table[HEADER + i * ROW] % 65536) as u16)
 }
 
-// The search goes by halves, since identifiers rise. From `slot` on so many slots are left as may hold the set: those below it have
-// smaller identifiers, those after them larger ones. Each turn looks at the middle one and leaves the half that it tells of, the
-// larger one where they are unlike; the last look is at the slot that is left.
+// 02: "Make the search quicker using the rising order." Identifiers rise from 1, so that slot k has one above k: a set lies below the
+// slot of its number, and right below if no identifier before it is left out. The first look is there. After it so many slots are
+// `left`, from `from` on, that may hold the set, and each look is at their middle, since what it finds tells of a half of them.
 pub fn find(table: &[u64], id: SetId) -> Found
     requires { ⌜ Legal (now table) ⌝ }
     ensures { λ r. ⌜ r ≡ findIn (now (table .entry)) (id .0) ⌝ }
 {
+    let number = id.0 as usize;
     let want = id.0 as u64;
-    let mut slot = 0;
-    let mut left = to_size(table[1]);
+    let n = to_size(table[1]);
     let mut looks = LOOKS;
-    while 1 < left {
-        let half = left / 2;
-        let middle = slot + half;
+    let mut left = n;
+    if (0 < number) & (number <= n) {
+        let slot = number - 1;
         looks -= 1;
-        if table[HEADER + middle * ROW] <= want {
-            slot = middle;
+        if table[HEADER + slot * ROW] == want {
+            return Found::At(Slot(slot));
         }
-        left -= half;
+        left = slot;
     }
-    looks -= 1;
-    if table[HEADER + slot * ROW] == want {
-        return Found::At(Slot(slot));
+    let mut from = 0;
+    while 0 < left {
+        let half = left / 2;
+        let slot = from + half;
+        looks -= 1;
+        let here = table[HEADER + slot * ROW];
+        if here == want {
+            return Found::At(Slot(slot));
+        }
+        if here < want {
+            from = slot + 1;
+            left = left - half - 1;
+        } else {
+            left = half;
+        }
     }
     Found::Nothing
 }

@@ -1,15 +1,35 @@
 use mathlib.Core.Logic.{⊎-elim}
+use Prim.Native.Nat.{_+_, _-_, _/_, _≤_, _<_}
+use native.Mathlib.Omega.{arith}
 use borrow.Author.Needs.{needs}
 use lib.Dec.{lit≤}
-use Rattle.table.proofs.Search.{Searching, search-start, search-up, search-down, search-here, search-nowhere}
+use Rattle.table.specs.Table.{count}
+use Rattle.table.proofs.Search.{Searching, not-below, search-all, number-some, number-inside, search-number, search-here, look-more, middle-inside, search-up, search-down, search-nowhere}
 use Rattle.table.proofs.find.Statement.{statement}
 use Rattle.table.proofs.find.Tie as tie
 
 abbrev Inv-loop : tie.InvT-loop
-Inv-loop table want slot₀ left₀ looks₀ slot left looks = Searching table want slot left looks
+Inv-loop table number want n looks₀ left₀ from₀ looks left from = Searching table want from left looks
 
 abbrev μ-loop : tie.MeasureT-loop
-μ-loop table want slot₀ left₀ looks₀ slot left looks = looks
+μ-loop table number want n looks₀ left₀ from₀ looks left from = looks
+
+abbrev start : tie.After-to-size Inv-loop μ-loop → tie.Start Inv-loop μ-loop
+start c = c .before .before .before .before .before
+
+-- the first look
+first : (c : tie.Then1 Inv-loop μ-loop) → start (c .before) .args .id .0 - 1 < count (start (c .before) .args .table .now)
+first c = number-inside _ (start (c .before) .pre) _ _ (c .before .to-size .ensures) (c .if1 .taken)
+
+-- every other one
+abbrev entered : tie.At-loop Inv-loop μ-loop → tie.Start Inv-loop μ-loop
+entered c = start (c .before .before)
+
+middle : (c : tie.In-loop Inv-loop μ-loop) → c .before .loop .from + c .before .loop .left / 2 < count (entered (c .before) .args .table .now)
+middle c = middle-inside _ (entered (c .before) .pre) _ _ _ _ (c .before .loop .inv) (c .loop-test .taken)
+
+look : (c : tie.In-loop Inv-loop μ-loop) → 1 ≤ c .before .loop .looks
+look c = look-more _ (entered (c .before) .pre) _ _ _ _ (c .before .loop .inv) (c .loop-test .taken)
 
 pub find-spec : {M : Type 1} → statement M
 find-spec =
@@ -17,22 +37,35 @@ find-spec =
     (tie.spec
     Inv-loop
     μ-loop
-    (λ c. search needs) (λ c. search needs) (λ c κs. search needs)
-    (λ c. search-start _ (c .before .before .before .before .pre) _ _ _ (c .to-size .ensures) (lit≤ tt) (lit≤ tt))
-    (λ c. search needs) (λ c. search needs) (λ c. search needs) (λ c. search needs) (λ c. search needs) (λ c. search needs) (λ c. search needs)
+    (λ c. search needs) (λ c. search needs) (λ c. search needs) (λ c κs. search needs)
+    (λ c. number-some _ (start (c .before) .pre) _ _ (c .before .to-size .ensures) (c .if1 .taken))
     (λ c. search needs)
+    (λ c. let h = first c in search needs) (λ c. let h = first c in search needs) (λ c. let h = first c in search needs)
+    (λ c. let h = first (c .before) in search needs)
+    (λ c. let t = c .before .before in search-here _ (start (t .before) .pre) _ _ (first t) (c .if2 .taken))
     (λ c.
-    let t = c .before .before in
-    let l = t .before .loop in
-    let s = t .before .before .before .before .before .before in
+    let a = c .before in
+    let s = start a in
     ⊎-elim
-    (λ w. rw (w .1) (search-up _ (s .pre) _ _ _ _ (l .inv) (t .loop-test .taken) (w .0 .taken)))
-    (λ w. rw (w .1) (search-down _ (s .pre) _ _ _ _ (l .inv) (t .loop-test .taken) (w .0 .left)))
+    (λ w. rw (w .3, w .4) (search-number _ (s .pre) _ _ (a .to-size .ensures) (w .0 .taken) _ (w .2 .left) (lit≤ tt)))
+    (λ w. rw (w .1, w .2) (search-all _ (s .pre) _ _ _ (a .to-size .ensures) (lit≤ tt)))
     (c .if1 .came))
-    (λ c. search needs) (λ c. search needs) (λ c. search needs) (λ c. search needs) (λ c. search needs)
+    (λ c. let h = middle (c .before) in search needs)
+    (λ c. look (c .before .before))
+    (λ c. let h = middle (c .before .before) in search needs) (λ c. let h = middle (c .before .before) in search needs) (λ c. let h = middle (c .before .before) in search needs)
+    (λ c. let h = middle (c .before .before .before) in search needs)
     (λ c.
-    let t = c .before .before in
-    search-here _ (t .before .before .before .before .before .before .pre) _ _ _ _ (t .before .loop .inv) (c .if2 .taken))
+    let t = c .before .before .before .before in
+    search-here _ (entered (t .before) .pre) _ _ (middle t) (c .if3 .taken))
+    (λ c. let h = middle (c .before .before .before .before .before) in search needs)
+    (λ c. search needs)
+    (λ c. let t = c .before .before .before .before .before in omega (arith, t .loop-test .taken))
+    (λ c. let h = look (c .before .before .before .before .before) in omega (arith, h))
     (λ c.
-    let t = c .before .before in
-    search-nowhere _ (t .before .before .before .before .before .before .pre) _ _ _ _ (t .before .loop .inv) (t .loop-test .left) (c .if2 .left)))
+    let t = c .before .before .before .before .before in
+    search-up _ (entered (t .before) .pre) _ _ _ _ (t .before .loop .inv) (t .loop-test .taken) (c .if4 .taken))
+    (λ c. let h = look (c .before .before .before .before .before) in omega (arith, h))
+    (λ c.
+    let t = c .before .before .before .before .before in
+    search-down _ (entered (t .before) .pre) _ _ _ _ (t .before .loop .inv) (t .loop-test .taken) (not-below (c .before .if3 .left) (c .if4 .left)))
+    (λ c. search-nowhere _ (entered (c .before) .pre) _ _ _ _ (c .before .loop .inv) (c .loop-test .left)))
