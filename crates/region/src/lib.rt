@@ -251,12 +251,15 @@ pub fn find(bytes: &[u8], id: SetId) -> Found
     requires { ⌜ Legal (tableIn (now bytes)) ⌝ }
     ensures { λ r. ⌜ r ≡ findIn (tableIn (now (bytes .entry))) (id .0) ⌝ }
 {
+    if id.0 == 0 {
+        return Found::Nothing;
+    }
     let number = id.0 as usize;
     let want = id.0 as u64;
     let n = count_of(bytes);
     let mut looks = LOOKS;
     let mut left = n;
-    if (0 < number) & (number <= n) {
+    if number <= n {
         let slot = number - 1;
         looks -= 1;
         if id_at(bytes, slot) == want {

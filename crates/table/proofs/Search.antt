@@ -1,13 +1,12 @@
 -- The search for a set: a legal table's identifiers rise from 1, so that a look at one tells of the slots on one side of it.
 use mathlib.Core.Path.{_≡_, refl, sym, ap, _∙_}
-use mathlib.Core.Bool.{true, _&&_}
+use mathlib.Core.Bool.{true}
 use mathlib.Core.List.{List, [], _∷_, map}
 use mathlib.Core.Logic.{⊎-elim}
 use Prim.Native.Nat.{ℕ, zero, suc, _+_, _-_, _*_, _/_, _^_, _≤_, _<_}
 use native.Mathlib.Omega.{arith}
 use native.Mathlib.Nat.{zero-add, add-zero, not-suc-le-zero, eq-or-lt-of-le, pow-suc}
-use borrow.Author.Tests.{ltb-true, leb-true, eq-eqb, ne-eqb}
-use lib.Dec.{ltb, leb}
+use borrow.Author.Tests.{ltb-true, eq-eqb, ne-eqb}
 use lib.ListN.{length, getD}
 use Rattle.octets.proofs.JoinedTests.{both}
 use Rattle.record.specs.Parts.{idOf}
@@ -105,12 +104,9 @@ module _ (ws : List ℕ) (l : Legal ws) where
       record { inside = omega arith; below = λ k h. absurd (not-suc-le-zero h); above = λ k h m. omega arith; few = omega (arith, l .few, f) }
 
   -- the look right below the slot of the set's number: the set is there, or in a slot before
-  module _ (id n : ℕ) (en : n ≡ count ws) (h : ltb 0 id && leb id n ≡ true) where
-    pub number-some : 0 < id
-    number-some = ltb-true 0 id (both (ltb 0 id) _ h .0)
-
+  module _ (id n : ℕ) (en : n ≡ count ws) (z : id ≡ 0 → ⊥) (h : id ≤ n) where
     pub number-inside : id - 1 < count ws
-    number-inside = omega (arith, number-some, leb-true id n (both (ltb 0 id) _ h .1))
+    number-inside = omega (arith, z, h)
 
     pub search-number : (looks : ℕ) → (idAt ws (id - 1) ≡ id → ⊥) → maxSets ≤ 2 ^ looks → Searching ws id 0 (id - 1) looks
     search-number looks q f =
@@ -179,3 +175,8 @@ module _ (ws : List ℕ) (l : Legal ws) where
             let e : idAt ws j ≡ id = sym (row-id j h) ∙ q in
             let over : from ≤ j → ⊥ = λ b. omega (arith, s .above j (omega (arith, b, t)) h, e) in
             ⊎-elim (λ b. omega (arith, s .below j b, e)) (λ b. over (omega (arith, b))) (lt-or-gt j from (λ z. over (omega (arith, z))))
+
+  -- no set has identifier 0
+  pub search-zero : Nothing ≡ findIn ws 0
+  unfolding findIn recordsOf
+  search-zero = sym (find-miss 0 0 (rows ws) (λ j h q. omega (arith, above 0 j (rows ws) (rows-known ws l) h, q)))

@@ -9,14 +9,11 @@ use native.Mathlib.Nat.{add-zero, sub-zero, pow-suc, pow-le-pow-right, lt-of-lt-
 use lib.Dec.{lit<, lit≤}
 use lib.ListN.{getD, drop}
 use lib.Seq.{getD-take, getD-drop}
-use borrow.Author.Tests.{eq-eqb, ne-eqb}
 use Rattle.record.specs.declared.Record.{Record}
 use Rattle.record.specs.Event.{bit}
 use Rattle.record.specs.Parts.{idOf}
-use Rattle.table.specs.declared.Found.{Found}
-use Rattle.table.specs.declared.Found.the-variants.{At, Nothing}
 use Rattle.table.specs.Layout.{rowWords, wordsOf, recordOf}
-use Rattle.table.specs.Table.{count, rowStart, row, rowsFrom, recordsOf, legalAfter, legalRows, Legal, findFrom, findIn, listedWord, maxSets}
+use Rattle.table.specs.Table.{count, rowStart, row, rowsFrom, recordsOf, legalAfter, legalRows, Legal, listedWord, maxSets}
 use Rattle.table.proofs.Records.{Row}
 use Rattle.table.proofs.LegalTables.{slot-known}
 

@@ -234,12 +234,15 @@ pub fn find(table: &[u64], id: SetId) -> Found
     requires { ⌜ Legal (now table) ⌝ }
     ensures { λ r. ⌜ r ≡ findIn (now (table .entry)) (id .0) ⌝ }
 {
+    if id.0 == 0 {
+        return Found::Nothing;
+    }
     let number = id.0 as usize;
     let want = id.0 as u64;
     let n = to_size(table[1]);
     let mut looks = LOOKS;
     let mut left = n;
-    if (0 < number) & (number <= n) {
+    if number <= n {
         let slot = number - 1;
         looks -= 1;
         if table[HEADER + slot * ROW] == want {
