@@ -1,5 +1,5 @@
-//! Times each function of libcard_c.a against the baseline, alternating in one process, and prints a Markdown table; then the search
-//! for a set by itself (search.rs).
+//! Times each function of libcard_c.a against the baseline, alternating in one process, and prints a Markdown table; then the
+//! search for a set by itself (search.rs).
 //!
 //! Each call gets a table of its own in the state that the case is about, since many calls change it; the tables are renewed
 //! outside the timed part. A row is the median of several runs, and says between what its ratios lay.
@@ -8,15 +8,16 @@ mod baseline;
 mod card_c;
 mod search;
 mod tables;
+mod timing;
 
 use model::commands::{
     ASYNCHRONOUS_EVENT_REQUEST, CONFIGURATION, EVENT_NOTICES, GET_FEATURES, GET_LOG_PAGE, IDENTIFY, LIST_PAGE, NOTICES_BIT,
     SET_FEATURES, SET_LIST, SET_PAGE, WINDOW,
 };
 use model::status;
-use std::ptr;
 use std::time::Instant;
-use tables::{bodies, command_of, configuration, median, prepared, Others, State, MIDDLE};
+use tables::{bodies, command_of, configuration, prepared, Others, State, MIDDLE};
+use timing::{median, opaque};
 use trials::entries::Entries;
 
 const BATCH: usize = 32;
@@ -125,12 +126,6 @@ fn run(bench: &mut Bench) -> (f64, f64) {
         rounds[1].push(bench.round(&baseline));
     }
     (median(&mut rounds[0]), median(&mut rounds[1]))
-}
-
-/// The same functions, but the compiler cannot know which: so it cannot work them out ahead.
-fn opaque(entries: &Entries) -> Entries {
-    // A reference may always be read through.
-    unsafe { ptr::read_volatile(entries) }
 }
 
 struct Bench {

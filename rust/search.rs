@@ -1,15 +1,17 @@
 //! Times the search for a set by itself. The proved one of libsearch_c.a, on words and on bytes, takes turns with two ordinary ones
-//! on the same table: a walk from the first slot on, as the proved one was before it went by halves, and the standard library's
-//! `binary_search_by_key`. Then a whole media event that names the same set, and how much of it the search takes.
+//! on the same table: a walk from slot to slot, and the standard library's `binary_search_by_key`. Then a whole media event that
+//! names the same set, and how much of it a search takes. A search does not wait for the one before it, so that these are the times
+//! of many searches, and less than what one takes of a call that waits for it.
 
 use crate::card_c;
-use crate::tables::{median, prepared, Others, State};
+use crate::tables::{prepared, Others, State};
+use crate::timing::{median, opaque};
 use model::layout::{header, HEADER_BYTES, HEADER_WORDS, MAX_SETS, ROW_BYTES, ROW_WORDS, WORD_BYTES};
+use std::slice;
 use std::time::Instant;
-use std::{ptr, slice};
 use trials::random::Random;
 
-/// How many searches are timed together, and of those that no branch foresees: more than it learns.
+/// How many searches are timed together; and where they are for different sets, so many that the processor does not learn them.
 const SEARCHES: usize = 2_048;
 const UNFORESEEN: usize = 65_536;
 /// How many events are, each of which needs a table of its own.
@@ -112,32 +114,34 @@ enum Named {
     Last,
     /// Right below the one in the middle; where that is a set, above the last.
     Absent,
-    /// Another each time, one in two of them not there: so that no branch is foreseen.
+    /// Another each time, so that no branch is foreseen.
     Any,
+    /// The same, one in two of them not there.
+    AnyOrNone,
 }
 
-const NAMED: [(Named, &str); 5] = [
+const NAMED: [(Named, &str); 6] = [
     (Named::First, "the first"),
     (Named::Middle, "the middle"),
     (Named::Last, "the last"),
     (Named::Absent, "none"),
-    (Named::Any, "any or none"),
+    (Named::Any, "any"),
+    (Named::AnyOrNone, "any or none"),
 ];
 
 impl Named {
     /// The sets to look for one after the other.
     fn identifiers(self, sets: Sets) -> Vec<u16> {
         let (middle, last) = (sets.identifier(sets.count / 2), sets.identifier(sets.count - 1));
+        let random = Random::new(1);
         let one = match self {
             Named::First => sets.identifier(0),
             Named::Middle => middle,
             Named::Last => last,
             Named::Absent if sets.step == 1 => last + 1,
             Named::Absent => middle - 1,
-            Named::Any => {
-                let random = Random::new(1);
-                return (0..UNFORESEEN).map(|_| random.between(1, 2 * u64::from(sets.count)) as u16).collect();
-            }
+            Named::Any => return (0..UNFORESEEN).map(|_| sets.identifier(random.below(sets.count.into()) as u16)).collect(),
+            Named::AnyOrNone => return (0..UNFORESEEN).map(|_| random.between(1, 2 * u64::from(sets.count)) as u16).collect(),
         };
         vec![one; SEARCHES]
     }
@@ -152,20 +156,16 @@ pub fn print() {
 }
 
 fn search_rows<T>(title: &str, searches: &[Search<T>; 3], form: impl Fn(Vec<u8>) -> Vec<T>) {
-    println!(
-        "\n| search {title} for | sets | ours, ns | walk, ns | ours / walk | between | halves, ns | ours / halves | between |"
-    );
+    let columns = "ours, ns | walk, ns | ours / walk | between | halves, ns | ours / halves | between";
+    println!("\n| search {title} for | sets | identifiers | {columns} |");
     println!("|---|---:|---|---:|---:|---:|---|---:|---:|---|");
     for sets in Sets::all() {
         let table = form(sets.table());
         hold(searches, &table, sets);
         for (named, name) in NAMED {
             let named = named.identifiers(sets);
-            let [ours, walk, halves] = opaque(searches);
-            let times =
-                Times::take([&mut || search_all(ours, &table, &named), &mut || search_all(walk, &table, &named), &mut || {
-                    search_all(halves, &table, &named)
-                }]);
+            let searches = opaque(searches);
+            let times = Times::take(|which| search_all(searches[which], &table, &named));
             let [ours, walk, halves] = times.medians();
             let (by_walk, by_halves) = (times.ratio(0, 1).text(), times.ratio(0, 2).text());
             println!("| {name} | {} | {ours:.1} | {walk:.1} | {by_walk} | {halves:.1} | {by_halves} |", sets.text());
@@ -184,9 +184,11 @@ fn event_rows() {
             let named = named.identifiers(sets);
             let [ours, walk, _] = opaque(&SEARCHES_OF_BYTES);
             let mut events = Events { table: &table, tables: table.repeat(EVENTS), named: &named, next: 0 };
-            let times = Times::take([&mut || events.some(), &mut || search_all(ours, &table, &named), &mut || {
-                search_all(walk, &table, &named)
-            }]);
+            let times = Times::take(|which| match which {
+                0 => events.some(),
+                1 => search_all(ours, &table, &named),
+                _ => search_all(walk, &table, &named),
+            });
             let [call, search, walk] = times.medians();
             let (of_call, by_walk) = (times.ratio(1, 0).median, times.ratio(2, 0).median);
             println!("| {name} | {} | {call:.0} | {search:.1} | {of_call:.3} | {walk:.1} | {by_walk:.3} |", sets.text());
@@ -208,12 +210,6 @@ fn hold<T>(searches: &[Search<T>; 3], table: &[T], sets: Sets) {
 fn found<T>(search: Search<T>, table: &[T], set: u16) -> usize {
     // The table is a legal one, made by the model.
     unsafe { search(table.as_ptr(), table.len(), set) }
-}
-
-/// The same searches, but the compiler cannot know which: so it cannot work them out ahead.
-fn opaque<T>(searches: &[Search<T>; 3]) -> [Search<T>; 3] {
-    // A reference may always be read through.
-    unsafe { ptr::read_volatile(searches) }
 }
 
 /// ns for each search.
@@ -266,13 +262,13 @@ impl Ratio {
 }
 
 impl Times {
-    fn take(mut timed: [&mut dyn FnMut() -> f64; 3]) -> Times {
+    fn take(mut timed: impl FnMut(usize) -> f64) -> Times {
         let mut runs = Times(Default::default());
         for _ in 0..RUNS {
             let mut rounds: [Vec<f64>; 3] = Default::default();
             for _ in 0..ROUNDS {
-                for (one, times) in timed.iter_mut().zip(&mut rounds) {
-                    times.push(one());
+                for (which, times) in rounds.iter_mut().enumerate() {
+                    times.push(timed(which));
                 }
             }
             for (rounds, times) in rounds.iter_mut().zip(&mut runs.0) {

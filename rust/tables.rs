@@ -28,8 +28,8 @@ pub enum Others {
     Mixed,
 }
 
-/// Feature commands name the set in CDW11 15:0, page 0Ah in 31:16; `MIDDLE` there stands for the set in the middle. What has none of
-/// its bits stands for itself.
+/// Feature commands name the set in CDW11 15:0, page 0Ah in 31:16; `MIDDLE` there stands for the set in the middle. What has none
+/// of its bits stands for itself.
 pub const MIDDLE: u32 = 0x0001_0001;
 
 /// The bodies of sets with these identifiers, as set-up takes them.
@@ -105,10 +105,4 @@ fn given(table: &mut [u8], opcode: u8, dwords: [u32; 4]) -> u16 {
 fn set_feature(table: &mut [u8], fid: u8, set: u16) -> u16 {
     let command = command_of(SET_FEATURES, [fid.into(), MIDDLE, 1, 0], set);
     (MODEL.command)(table, &command, &configuration(), &mut [], &mut [])
-}
-
-/// What times are given as.
-pub fn median(times: &mut [f64]) -> f64 {
-    times.sort_by(f64::total_cmp);
-    times[times.len() / 2]
 }

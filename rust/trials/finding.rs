@@ -18,7 +18,7 @@ use std::sync::mpsc::{channel, Receiver, RecvTimeoutError};
 use std::thread;
 use std::time::Duration;
 
-/// A search that does not end says nothing. So long without an answer to the calls on one card, which are less than 200, is taken
+/// A search that does not end says nothing. So long without an answer to the calls on one card, which are fewer than 200, is taken
 /// for that.
 const LIMIT: Duration = Duration::from_secs(60);
 
@@ -61,13 +61,13 @@ enum Place {
 }
 
 /// Of each place how often it is named, in the five layouts of 1 to 64 sets together. The sizes add up to 2,080 sets.
-/// - Every card has a first set; the 63 of two sets or more have a last one besides. About the middle, and neither, is one set of
-///   each odd size from 3 to 63 and two of each even size from 4 to 64. All other sets lie elsewhere.
-/// - Below the first are 0 in the first two layouts, and of one set in the second also the 1 that is left out; 0 and 1 in the third;
-///   0, 1 and the identifier before it in each of the last two.
+/// - Every card has a first set; the 63 of two sets or more have a last one besides. About the middle, and neither first nor last,
+///   is one set of each odd size from 3 to 63 and two of each even size from 4 to 64. All other sets lie elsewhere.
+/// - Below the first are 0 in the first two layouts, and of one set in the second also the 1 that is left out; 0 and 1 in the
+///   third; 0, 1 and the identifier before it in each of the last two.
 /// - Between n sets lie none in the first layout; in the second, of two sets or more, the one that is left out; n - 1 in the third
-///   and fourth: 2,016 each. In the fifth the neighbours that are named are none, 1, 2 and 2 in turn, thus 5 for each four steps, and
-///   0, 0, 1 or 3 for those left over: for 0 to 63 steps 4 x 5 x (0 + 1 + .. + 15) + 16 x (0 + 0 + 1 + 3) = 2,464.
+///   and fourth: 2,016 each. In the fifth the neighbours that are named are none, 1, 2 and 2 in turn, thus 5 for each four steps,
+///   and 0, 0, 1 or 3 for those left over: for 0 to 63 steps 4 x 5 x (0 + 1 + .. + 15) + 16 x (0 + 0 + 1 + 3) = 2,464.
 /// - Above the last are the identifier after it and 65,535; but none where 65,535 is the last, in the fourth layout.
 const PLACES: [(&str, u64); 7] = [
     ("found at the first slot", 5 * 64),

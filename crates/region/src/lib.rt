@@ -251,16 +251,17 @@ pub fn find(bytes: &[u8], id: SetId) -> Found
     requires { ⌜ Legal (tableIn (now bytes)) ⌝ }
     ensures { λ r. ⌜ r ≡ findIn (tableIn (now (bytes .entry))) (id .0) ⌝ }
 {
+    // no set has it
     if id.0 == 0 {
         return Found::Nothing;
     }
-    let number = id.0 as usize;
+    let identifier = id.0 as usize;
     let want = id.0 as u64;
-    let n = count_of(bytes);
+    let sets = count_of(bytes);
     let mut looks = LOOKS;
-    let mut left = n;
-    if number <= n {
-        let slot = number - 1;
+    let mut left = sets;
+    if identifier <= sets {
+        let slot = identifier - 1;
         looks -= 1;
         if id_at(bytes, slot) == want {
             return Found::At(Slot(slot));

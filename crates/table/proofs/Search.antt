@@ -5,7 +5,7 @@ use mathlib.Core.List.{List, [], _∷_, map}
 use mathlib.Core.Logic.{⊎-elim}
 use Prim.Native.Nat.{ℕ, zero, suc, _+_, _-_, _*_, _/_, _^_, _≤_, _<_}
 use native.Mathlib.Omega.{arith}
-use native.Mathlib.Nat.{zero-add, add-zero, not-suc-le-zero, eq-or-lt-of-le, pow-suc}
+use native.Mathlib.Nat.{zero-add, add-zero, not-suc-le-zero, eq-or-lt-of-le, eq-zero-or-pos, pow-suc}
 use borrow.Author.Tests.{ltb-true, eq-eqb, ne-eqb}
 use lib.ListN.{length, getD}
 use Rattle.octets.proofs.JoinedTests.{both}
@@ -13,7 +13,7 @@ use Rattle.record.specs.Parts.{idOf}
 use Rattle.table.specs.declared.Found.the-variants.{At, Nothing}
 use Rattle.table.specs.Layout.{recordOf}
 use Rattle.table.specs.Table.{count, rowStart, rows, recordsOf, legalRow, legalAfter, legalRows, Legal, findFrom, findIn, maxSets}
-use Rattle.table.proofs.Slots.{lt-or-gt, rows-at, length-rows}
+use Rattle.table.proofs.Slots.{rows-at, length-rows}
 use Rattle.table.proofs.LegalTables.{rows-known}
 use Rattle.table.proofs.Turns.{id-at}
 
@@ -24,17 +24,17 @@ abbrev rowId : List (List ℕ) → ℕ → ℕ
 rowId rs k = idOf (recordOf (getD rs k []))
 
 -- each is above the one before it, and the first above p
-above : (p k : ℕ) (rs : List (List ℕ)) → legalRows p rs ≡ true → k < length rs → p + k < rowId rs k
-above p k [] h l = absurd (not-suc-le-zero l)
-above p zero (a ∷ rs) h l = omega (arith, ltb-true p _ (both (legalRow a) _ (both (legalAfter p a) _ h .0) .1))
-above p (suc k) (a ∷ rs) h l =
+climbs : (p k : ℕ) (rs : List (List ℕ)) → legalRows p rs ≡ true → k < length rs → p + k < rowId rs k
+climbs p k [] h l = absurd (not-suc-le-zero l)
+climbs p zero (a ∷ rs) h l = omega (arith, ltb-true p _ (both (legalRow a) _ (both (legalAfter p a) _ h .0) .1))
+climbs p (suc k) (a ∷ rs) h l =
     let t = both (legalAfter p a) _ h in
-    omega (arith, ltb-true p _ (both (legalRow a) _ (t .0) .1), above (idOf (recordOf a)) k rs (t .1) (omega arith))
+    omega (arith, ltb-true p _ (both (legalRow a) _ (t .0) .1), climbs (idOf (recordOf a)) k rs (t .1) (omega arith))
 
 rise : (p j k : ℕ) (rs : List (List ℕ)) → legalRows p rs ≡ true → j < k → k < length rs → rowId rs j < rowId rs k
 rise p j k [] h l m = absurd (not-suc-le-zero m)
 rise p j zero (a ∷ rs) h l m = absurd (not-suc-le-zero l)
-rise p zero (suc k) (a ∷ rs) h l m = omega (arith, above (idOf (recordOf a)) k rs (both (legalAfter p a) _ h .1) (omega arith))
+rise p zero (suc k) (a ∷ rs) h l m = omega (arith, climbs (idOf (recordOf a)) k rs (both (legalAfter p a) _ h .1) (omega arith))
 rise p (suc j) (suc k) (a ∷ rs) h l m = rise (idOf (recordOf a)) j k rs (both (legalAfter p a) _ h .1) (omega arith) (omega arith)
 
 -- ---- what a search that starts at the first slot finds
@@ -56,7 +56,7 @@ find-miss id i (a ∷ rs) n =
 
 -- an identifier that is neither the one that is looked for nor below it
 pub not-below : {here id : ℕ} → (here ≡ id → ⊥) → id ≤ here → id < here
-not-below n h = ⊎-elim (λ e. absurd (n (sym e))) (λ l. l) (eq-or-lt-of-le h)
+not-below n h = omega (arith, n, h)
 
 -- ---- the slots of a legal table
 
@@ -65,7 +65,7 @@ abbrev pub idAt : List ℕ → ℕ → ℕ
 idAt ws k = getD ws (rowStart k) 0
 
 -- So many slots are left, from `from` on, that may hold the identifier, and no other can. They are so few that so many looks tell
--- which of them does, since each leaves less than half.
+-- which of them does, since each leaves at most half of them.
 pub record Searching (ws : List ℕ) (id from left looks : ℕ) : Type 0 where
   pub inside : from + left ≤ count ws
   pub below : (k : ℕ) → k < from → idAt ws k < id
@@ -96,7 +96,7 @@ module _ (ws : List ℕ) (l : Legal ws) where
   -- a slot has an identifier above its number
   id-above : (k : ℕ) → k < count ws → k < idAt ws k
   id-above k h =
-      rw (← row-id k h) (omega (arith, above 0 k (rows ws) (rows-known ws l) (omega (arith, length-rows ws 0 (count ws)))))
+      rw (← row-id k h) (omega (arith, climbs 0 k (rows ws) (rows-known ws l) (omega (arith, length-rows ws 0 (count ws)))))
 
   -- at the start all slots are left, and the looks are enough for as many as there can be
   pub search-all : (id n looks : ℕ) → n ≡ count ws → maxSets < 2 ^ looks → Searching ws id 0 n looks
@@ -173,10 +173,12 @@ module _ (ws : List ℕ) (l : Legal ws) where
         none : (j : ℕ) → j < count ws → rowId (rows ws) j ≡ id → ⊥
         none j h q =
             let e : idAt ws j ≡ id = sym (row-id j h) ∙ q in
-            let over : from ≤ j → ⊥ = λ b. omega (arith, s .above j (omega (arith, b, t)) h, e) in
-            ⊎-elim (λ b. omega (arith, s .below j b, e)) (λ b. over (omega (arith, b))) (lt-or-gt j from (λ z. over (omega (arith, z))))
+            ⊎-elim
+            (λ b. omega (arith, s .above j (omega (arith, b, t)) h, e))
+            (λ b. omega (arith, s .below j (omega (arith, b)), e))
+            (eq-zero-or-pos (from - j))
 
   -- no set has identifier 0
   pub search-zero : Nothing ≡ findIn ws 0
   unfolding findIn recordsOf
-  search-zero = sym (find-miss 0 0 (rows ws) (λ j h q. omega (arith, above 0 j (rows ws) (rows-known ws l) h, q)))
+  search-zero = sym (find-miss 0 0 (rows ws) (λ j h q. omega (arith, climbs 0 j (rows ws) (rows-known ws l) h, q)))

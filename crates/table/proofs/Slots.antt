@@ -13,7 +13,7 @@ use Rattle.table.specs.Layout.{rowWords}
 use Rattle.table.specs.Card.{headerWords}
 use Rattle.table.specs.Table.{rowStart, row, put, rowsFrom}
 
-pub lt-or-gt : (i j : ℕ) → (i ≡ j → ⊥) → (i < j) ⊎ (j < i)
+lt-or-gt : (i j : ℕ) → (i ≡ j → ⊥) → (i < j) ⊎ (j < i)
 lt-or-gt zero zero n = absurd (n refl)
 lt-or-gt zero (suc j) n = inl (omega arith)
 lt-or-gt (suc i) zero n = inr (omega arith)

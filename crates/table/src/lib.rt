@@ -31,9 +31,8 @@ use replies::Notice;
 
 pub const MAX_SETS: usize = 64;
 
-// So many looks at identifiers find a set among as many, or that it is not there: k of them tell of fewer than 2 ^ k slots. A search
-// counts down what is left of them. A difference that could fall below 0 is refused, so that there is no eighth look; nothing reads the
-// count, so that the compiler leaves it out.
+// Seven looks at identifiers are enough for MAX_SETS slots, since k looks tell of fewer than 2 ^ k. A search counts down from here
+// at each look, and it is proved that the count does not fall below 0: so no search takes an eighth look.
 pub const LOOKS: usize = 7;
 
 pub enum Found {
@@ -227,23 +226,25 @@ pub fn id_of(table: &[u64], slot: Slot) -> SetId
     SetId((table[HEADER + i * ROW] % 65536) as u16)
 }
 
-// 02: "Make the search quicker using the rising order." Identifiers rise from 1, so that slot k has one above k: a set lies below the
-// slot of its number, and right below if no identifier before it is left out. The first look is there. After it so many slots are
-// `left`, from `from` on, that may hold the set, and each look is at their middle, since what it finds tells of a half of them.
+// 02: "Make the search quicker using the rising order." Identifiers rise, from 1 or above, so that slot k has one above k: a set s
+// lies in slot s - 1 or before it, and in s - 1 itself where no identifier below s is left out. If there is such a slot, the first
+// look is there. After that so many slots are `left`, from `from` on, that may hold the set. Each look is at the middle one, since
+// what it finds tells of a half of them.
 pub fn find(table: &[u64], id: SetId) -> Found
     requires { ⌜ Legal (now table) ⌝ }
     ensures { λ r. ⌜ r ≡ findIn (now (table .entry)) (id .0) ⌝ }
 {
+    // no set has it
     if id.0 == 0 {
         return Found::Nothing;
     }
-    let number = id.0 as usize;
+    let identifier = id.0 as usize;
     let want = id.0 as u64;
-    let n = to_size(table[1]);
+    let sets = to_size(table[1]);
     let mut looks = LOOKS;
-    let mut left = n;
-    if number <= n {
-        let slot = number - 1;
+    let mut left = sets;
+    if identifier <= sets {
+        let slot = identifier - 1;
         looks -= 1;
         if table[HEADER + slot * ROW] == want {
             return Found::At(Slot(slot));

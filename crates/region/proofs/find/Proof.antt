@@ -12,10 +12,10 @@ use Rattle.region.proofs.find.Statement.{statement}
 use Rattle.region.proofs.find.Tie as tie
 
 abbrev Inv-loop : tie.InvT-loop
-Inv-loop bytes number want n looks₀ left₀ from₀ looks left from = Searching (tableIn bytes) want from left looks
+Inv-loop bytes identifier want sets looks₀ left₀ from₀ looks left from = Searching (tableIn bytes) want from left looks
 
 abbrev μ-loop : tie.MeasureT-loop
-μ-loop bytes number want n looks₀ left₀ from₀ looks left from = looks
+μ-loop bytes identifier want sets looks₀ left₀ from₀ looks left from = looks
 
 abbrev start : tie.After-count-of Inv-loop μ-loop → tie.Start Inv-loop μ-loop
 start c = c .before .before .before .before .before .before
@@ -28,14 +28,17 @@ first : (c : tie.Then2 Inv-loop μ-loop) → start (c .before) .args .id .0 - 1 
 first c = number-inside _ (start (c .before) .pre) _ _ (c .before .count-of .ensures) (some (c .before)) (c .if2 .taken)
 
 -- every other one
+going : (c : tie.In-loop Inv-loop μ-loop) → 0 < c .before .loop .left
+going c = omega (arith, c .loop-test .taken)
+
 abbrev entered : tie.At-loop Inv-loop μ-loop → tie.Start Inv-loop μ-loop
 entered c = start (c .before .before)
 
 middle : (c : tie.In-loop Inv-loop μ-loop) → c .before .loop .from + c .before .loop .left / 2 < count (tableIn (entered (c .before) .args .bytes .now))
-middle c = middle-inside _ (entered (c .before) .pre) _ _ _ _ (c .before .loop .inv) (c .loop-test .taken)
+middle c = middle-inside _ (entered (c .before) .pre) _ _ _ _ (c .before .loop .inv) (going c)
 
 look : (c : tie.In-loop Inv-loop μ-loop) → 1 ≤ c .before .loop .looks
-look c = look-more _ (entered (c .before) .pre) _ _ _ _ (c .before .loop .inv) (c .loop-test .taken)
+look c = look-more _ (entered (c .before) .pre) _ _ _ _ (c .before .loop .inv) (going c)
 
 pub find-spec : {M : Type 1} → statement M
 find-spec =
@@ -69,17 +72,17 @@ find-spec =
     omega (arith, middle t, s .pre .room, length-in (s .args .bytes .now)))
     (λ c.
     let t = c .before .before .before .before in
-    search-here _ (entered (t .before) .pre) _ _ (middle t) (sym (c .before .id-at2 .ensures) ∙ c .if4 .taken))
+    search-here _ (entered (t .before) .pre) _ _ (omega (arith, middle t)) (sym (c .before .id-at2 .ensures) ∙ c .if4 .taken))
     (λ c. let h = middle (c .before .before .before .before .before) in search needs)
     (λ c. search needs)
-    (λ c. let t = c .before .before .before .before .before in omega (arith, t .loop-test .taken))
+    (λ c. let t = c .before .before .before .before .before in omega (arith, going t))
     (λ c. let h = look (c .before .before .before .before .before) in omega (arith, h))
     (λ c.
     let t = c .before .before .before .before .before in
-    search-up _ (entered (t .before) .pre) _ _ _ _ (t .before .loop .inv) (t .loop-test .taken) (rw (c .before .before .id-at2 .ensures) at (c .if5 .taken)))
+    search-up _ (entered (t .before) .pre) _ _ _ _ (t .before .loop .inv) (going t) (rw (c .before .before .id-at2 .ensures) at (c .if5 .taken)))
     (λ c. let h = look (c .before .before .before .before .before) in omega (arith, h))
     (λ c.
     let t = c .before .before .before .before .before in
-    search-down _ (entered (t .before) .pre) _ _ _ _ (t .before .loop .inv) (t .loop-test .taken)
+    search-down _ (entered (t .before) .pre) _ _ _ _ (t .before .loop .inv) (going t)
     (rw (c .before .before .id-at2 .ensures) at (not-below (c .before .if4 .left) (c .if5 .left))))
     (λ c. search-nowhere _ (entered (c .before) .pre) _ _ _ _ (c .before .loop .inv) (c .loop-test .left)))
