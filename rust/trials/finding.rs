@@ -7,7 +7,8 @@ use crate::calls::{Call, Function, Outcome, Regions, Takes};
 use crate::entries::MODEL;
 use crate::holding::difference;
 use crate::random::Random;
-use model::commands::{COMMAND_BYTES, CONFIGURATION, GET_FEATURES, GET_LOG_PAGE, SET_FEATURES, SET_PAGE, WINDOW};
+use crate::samples::Fields;
+use model::commands::{CONFIGURATION, GET_FEATURES, GET_LOG_PAGE, SET_FEATURES, SET_PAGE, WINDOW};
 use model::layout::{read_table, table_bytes, word_of, write_table, Card, HEADER_BYTES, MAX_SETS, ROW_BYTES};
 use model::notices::Notices;
 use model::pages::{CONFIGURATION_BYTES, SET_PAGE_BYTES};
@@ -140,11 +141,7 @@ fn event(random: &Random, function: Function, table: &[u8]) -> Call {
 
 /// A command with these dwords 10 to 12. Its data, which only Set 13h reads, have no event enabled and no threshold.
 fn command(random: &Random, opcode: u8, dwords: [u32; 3], table: &[u8]) -> Call {
-    let mut command = [0; COMMAND_BYTES];
-    command[0] = opcode;
-    for (place, dword) in command[40..52].chunks_exact_mut(4).zip(dwords) {
-        place.copy_from_slice(&dword.to_le_bytes());
-    }
+    let command = Fields { opcode, identifier: None, dwords: [dwords[0], dwords[1], dwords[2], 0] }.command(random);
     let data = [0; CONFIGURATION_BYTES];
     let (answer, reply) = (random.bytes(SET_PAGE_BYTES), random.bytes(REPLY_BYTES));
     Call { function: Function::Command, regions: Regions::new(random, table, [&command, &data, &answer, &reply]) }
@@ -288,7 +285,7 @@ impl Met {
 /// model does, each answer is that of the set named, and each place was named just as often as it has to be.
 pub fn hold_finding(name: &str, taker: &mut dyn Takes) -> bool {
     println!("{} asked for each set of each card: {} sizes, {} layouts", name, MAX_SETS, LAYOUTS.len());
-    let random = Random::new(0); // fills only what no function may read or keep
+    let random = Random::new(0); // fills only what no document names, and what no function may keep
     let mut met = Met { places: [[0; KINDS.len()]; PLACES.len()], slots: [0; MAX_SETS] };
     let (begun, cards) = channel();
     thread::spawn(move || end_if_silent(cards));

@@ -256,16 +256,16 @@ fn near_an_edge(random: &Random, set: &Set, quantity: Quantity) -> u64 {
 }
 
 /// The fields of a command that 01 and 02 name.
-struct Fields {
-    opcode: u8,
+pub(crate) struct Fields {
+    pub(crate) opcode: u8,
     /// None where it may be any: only a request's is read.
-    identifier: Option<u16>,
-    dwords: [u32; 4],
+    pub(crate) identifier: Option<u16>,
+    pub(crate) dwords: [u32; 4],
 }
 
 impl Fields {
     /// The whole command; what no document names holds anything.
-    fn command(&self, random: &Random) -> Vec<u8> {
+    pub(crate) fn command(&self, random: &Random) -> Vec<u8> {
         let mut command = random.bytes(COMMAND_BYTES);
         command[0] = self.opcode;
         if let Some(identifier) = self.identifier {

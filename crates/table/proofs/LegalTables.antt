@@ -1,10 +1,10 @@
 -- What a legal table gives: its size, and of each slot a legal row.
-use mathlib.Core.Path.{_≡_, refl, sym, ap, _∙_}
+use mathlib.Core.Path.{_≡_, refl, sym}
 use mathlib.Core.Bool.{Bool, true, false, _&&_, and-true, and-false}
 use mathlib.Core.List.{List, [], _∷_, map}
 use Prim.Native.Nat.{ℕ, zero, suc, _≤_, _<_}
 use native.Mathlib.Omega.{arith}
-use native.Mathlib.Nat.{not-suc-le-zero, zero-add}
+use native.Mathlib.Nat.{not-suc-le-zero}
 use borrow.Author.Tests.{leb-true, eqb-true, le-leb, lt-leb, lt-ltb}
 use lib.Dec.{ltb, leb, eqb}
 use lib.ListN.{length, getD, length-map, length-take, length-drop}
@@ -23,7 +23,7 @@ use Rattle.desk.proofs.LegalDesks.{legal-words}
 use Rattle.table.specs.Card.{layoutNumber, headerWords}
 use Rattle.table.specs.Table.{layout, count, deskPart, DeskThere, rowStart, row, rows, recordsOf, legalRow, legalAfter, legalRows, legalSets, roomFor, sized, extentOf, legalTable, Legal, findIn, entryOf, enterIn, maxSets}
 use Rattle.table.proofs.Records.{Row, row-of, words-legal, record-back}
-use Rattle.table.proofs.Slots.{rows-at, length-rows}
+use Rattle.table.proofs.Slots.{row-at, length-rows}
 
 pub record Sized (ws : List ℕ) : Type 0 where
   pub known : layout ws ≡ layoutNumber
@@ -81,9 +81,7 @@ legal-at p (suc k) (a ∷ rs) h l = legal-at (idOf (recordOf a)) k rs (both (leg
 
 -- each slot of a legal table holds a legal row: the words of a legal record
 pub slot-legal : (ws : List ℕ) → Legal ws → (k : ℕ) → k < count ws → legalRow (row ws k) ≡ true
-slot-legal ws l k h =
-    let e : getD (rows ws) k [] ≡ row ws k = rows-at ws 0 k (count ws) h ∙ ap (row ws) (zero-add k) in
-    rw e at (legal-at 0 k (rows ws) (rows-known ws l) (omega (arith, length-rows ws 0 (count ws))))
+slot-legal ws l k h = rw (row-at ws k h) at (legal-at 0 k (rows ws) (rows-known ws l) (omega (arith, length-rows ws 0 (count ws))))
 
 pub slot-known : (ws : List ℕ) → Legal ws → (k : ℕ) → k < count ws → Row (row ws k)
 slot-known ws l k h = row-of (row ws k) (slot-legal ws l k h)

@@ -13,7 +13,7 @@ use Rattle.record.specs.Parts.{idOf}
 use Rattle.table.specs.declared.Found.the-variants.{At, Nothing}
 use Rattle.table.specs.Layout.{recordOf}
 use Rattle.table.specs.Table.{count, rowStart, rows, recordsOf, legalRow, legalAfter, legalRows, Legal, findFrom, findIn, maxSets}
-use Rattle.table.proofs.Slots.{rows-at, length-rows}
+use Rattle.table.proofs.Slots.{row-at, length-rows}
 use Rattle.table.proofs.LegalTables.{rows-known}
 use Rattle.table.proofs.Turns.{id-at}
 
@@ -87,7 +87,7 @@ half-few left (suc m) f h =
 
 module _ (ws : List ℕ) (l : Legal ws) where
   row-id : (k : ℕ) → k < count ws → rowId (rows ws) k ≡ idAt ws k
-  row-id k h = rw (rows-at ws 0 k (count ws) h, zero-add k) (sym (id-at ws l k h))
+  row-id k h = rw (row-at ws k h) (sym (id-at ws l k h))
 
   ids-rise : (j k : ℕ) → j < k → k < count ws → idAt ws j < idAt ws k
   ids-rise j k h m =

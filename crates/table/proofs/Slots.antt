@@ -5,13 +5,13 @@ use mathlib.Core.List.{List, []}
 use mathlib.Core.Logic.{_⊎_, inl, inr, ⊎-elim}
 use Prim.Native.Nat.{ℕ, zero, suc, _+_, _≤_, _<_}
 use native.Mathlib.Omega.{arith}
-use native.Mathlib.Nat.{add-zero, add-suc, suc-add, not-suc-le-zero}
+use native.Mathlib.Nat.{add-zero, zero-add, add-suc, suc-add, not-suc-le-zero}
 use lib.ListN.{length, getD, drop, length-take, length-drop}
 use lib.Seq.{length-sets}
 use Rattle.octets.proofs.Runs.{getD-sets, drop-sets, part-same, part-other, sets-self}
 use Rattle.table.specs.Layout.{rowWords}
 use Rattle.table.specs.Card.{headerWords}
-use Rattle.table.specs.Table.{rowStart, row, put, rowsFrom}
+use Rattle.table.specs.Table.{count, rowStart, row, rows, put, rowsFrom}
 
 lt-or-gt : (i j : ℕ) → (i ≡ j → ⊥) → (i < j) ⊎ (j < i)
 lt-or-gt zero zero n = absurd (n refl)
@@ -54,3 +54,7 @@ pub rows-at : (ws : List ℕ) (j k m : ℕ) → k < m → getD (rowsFrom ws j m)
 rows-at ws j zero (suc m) h = rw (add-zero j)
 rows-at ws j (suc k) (suc m) h = rows-at ws (suc j) k m (omega arith) ∙ rw (add-suc j k, suc-add j k)
 rows-at ws j k zero h = absurd (not-suc-le-zero h)
+
+-- the row of a slot among all rows
+pub row-at : (ws : List ℕ) (k : ℕ) → k < count ws → getD (rows ws) k [] ≡ row ws k
+row-at ws k h = rows-at ws 0 k (count ws) h ∙ ap (row ws) (zero-add k)
