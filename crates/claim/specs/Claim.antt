@@ -4,6 +4,7 @@
 -- for it.
 use Rattle.desk.specs.Words as desk
 use Rattle.rules.specs.Changes as changes
+use Rattle.rules.specs.Need as need
 use Rattle.rules.specs.Door as door
 use Rattle.rules.specs.Rules as rules
 use Rattle.table.specs.LegalWords as legal
@@ -54,6 +55,15 @@ pub record Claim : Type 0 where
   pub starts-anew : door.StartsAnew
   pub held-stays : door.HeldStays
   pub carries-none : rules.CarriesNone
+  -- 02, "Short windows pay too much": the need after a window, and who has which
+  pub need-within : need.NeedWithin
+  pub need-rises : need.NeedRises
+  pub need-ends : need.NeedEnds
+  pub need-rounded : need.NeedRounded
+  pub enabling-needs-high : door.EnablingNeedsHigh
+  pub leaving-needs : door.LeavingNeeds
+  pub time-up-needs-high : door.TimeUpNeedsHigh
+  pub need-stays : rules.NeedStays
   -- warnings
   pub zero-never-warns : rules.ZeroNeverWarns
   pub above-warns-on-entry : rules.AboveWarnsOnEntry

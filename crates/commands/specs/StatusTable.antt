@@ -99,7 +99,7 @@ shortLine k c given room = line (ltb given (needsIn k) || ltb room (needsOut k c
 
 -- "select D from N too early"
 abbrev pub selectsEarly : Kind → Command → Attributes → State → Bool
-selectsEarly k c a s = shapeOf k .window && isEarly (windowCause c) a s
+selectsEarly k c a s = shapeOf k .window && isEarly (windowCause c) s
 
 -- 02: "Up to four requests wait ..; a fifth gets 0105h." So many wait already.
 abbrev pub requestLine : Kind → ℕ → Line

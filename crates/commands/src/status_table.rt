@@ -152,7 +152,7 @@ fn selects_early(k: Kind, c: Command, a: Attributes, s: State) -> bool
 {
     let shape = shape_of(k);
     if shape.window {
-        return is_early(a, s, window_cause(c));
+        return is_early(s, window_cause(c));
     }
     false
 }

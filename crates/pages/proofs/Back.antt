@@ -31,7 +31,7 @@ use Rattle.record.specs.declared.Quantity.{Quantity}
 use Rattle.record.specs.declared.Quantity.the-variants.{Reads, Writes, Time}
 use Rattle.record.specs.declared.State.{State}
 use Rattle.record.specs.declared.Record.{Record}
-use Rattle.record.specs.Quantities.{limit, spentOf, need}
+use Rattle.record.specs.Quantities.{limit, spentOf, needMet}
 use Rattle.record.specs.Parts.{configOf}
 use Rattle.record.specs.Windows.{byWindow, windowNo}
 use Rattle.record.specs.Legal.{typicalMaximum, dayMs, legalAttributes}
@@ -294,7 +294,7 @@ left-below N most n false = omega arith
 
 -- an estimate is at most the quantity's limit
 pub estimate-below : (q : Quantity) (a : Attributes) (s : State) → estimate q a s ≤ limit q a
-estimate-below q a s = left-below (s .window) (limit q a) (spentOf q (s .spent)) (eqb (s .recovery .time) (need a))
+estimate-below q a s = left-below (s .window) (limit q a) (spentOf q (s .spent)) (needMet (s .recovery))
 
 -- what page 0Ah shows of a legal record fits its places
 pub latency-fit : (r : Record) → legalAttributes (r .attributes) ≡ true → Fit (latencyFields r)

@@ -12,7 +12,7 @@ use Rattle.record.specs.declared.Config.{Config}
 use Rattle.record.specs.declared.State.{State}
 use Rattle.record.specs.declared.Record.{Record}
 use Rattle.record.specs.declared.Effect.{Effect}
-use Rattle.record.specs.Quantities.{limit, spentOf, threshold, enables, need}
+use Rattle.record.specs.Quantities.{limit, spentOf, threshold, enables, needMet}
 use Rattle.record.specs.Windows.{byWindow}
 
 -- ---- estimates
@@ -21,13 +21,13 @@ use Rattle.record.specs.Windows.{byWindow}
 abbrev pub leftOf : Quantity → Attributes → ℕ → ℕ
 leftOf q a n = limit q a - n
 
--- "In N: 0 until N time equals high, then typical or maximum. Off: 0."
+-- 01: "In N: 0 until N time equals high, then typical or maximum. Off: 0.", amended by 02: "the estimates in N wait for the need"
 abbrev pub estimate : Quantity → Attributes → State → ℕ
 estimate q a s =
     byWindow (s .window)
     0
     (leftOf q a (spentOf q (s .spent)))
-    (if eqb (s .recovery .time) (need a) then limit q a else 0)
+    (if needMet (s .recovery) then limit q a else 0)
 
 -- ---- events
 

@@ -12,7 +12,6 @@ use Rattle.record.specs.declared.State.{State}
 use Rattle.record.specs.declared.Notes.{Notes}
 use Rattle.record.specs.declared.Record.{Record}
 use Rattle.record.specs.declared.Effect.{Effect}
-use Rattle.record.specs.Quantities.{need}
 use Rattle.record.specs.Windows.{byWindow}
 use Rattle.record.specs.Event.{someEvent, settled}
 
@@ -67,13 +66,13 @@ withinLimits a p = leb (p .reads) (a .«reads_typical») && leb (p .writes) (a .
 abbrev pub noneSpent : Spent → Bool
 noneSpent p = eqb (p .reads) 0 && eqb (p .writes) 0 && eqb (p .time) 0
 
--- "N time at most high"
+-- 01: "N time at most high", amended by 02: "need from low to high in N, ..; N time at most need"
 abbrev pub withinNeed : Attributes → Recovery → Bool
-withinNeed a r = leb (r .time) (need a)
+withinNeed a r = leb (a .«minimum_low») (r .need) && leb (r .need) (a .«minimum_high») && leb (r .time) (r .need)
 
--- "and zero outside N"
+-- 01: "and zero outside N"; and 02 of the need: "else 0"
 abbrev pub noneRecovered : Recovery → Bool
-noneRecovered r = eqb (r .time) 0
+noneRecovered r = eqb (r .time) 0 && eqb (r .need) 0
 
 abbrev pub legalState : Attributes → State → Bool
 legalState a s =

@@ -27,12 +27,12 @@ spends i o t = record { reads = i; writes = o; time = t }
 abbrev pub nothingSpent : Spent
 nothingSpent = spends 0 0 0
 
--- "time in the non-deterministic one (N)"
-abbrev pub recovers : ℕ → Recovery
-recovers n = record { time = n }
+-- "time in the non-deterministic one (N)"; and 02: "the need", how much of it N must have before D may be selected
+abbrev pub recovers : ℕ → ℕ → Recovery
+recovers n need = record { time = n; need = need }
 
 abbrev pub noRecovery : Recovery
-noRecovery = recovers 0
+noRecovery = recovers 0 0
 
 abbrev pub stateOf : Window → Config → Spent → Recovery → State
 stateOf w c p r = record { window = w; config = c; spent = p; recovery = r }

@@ -1,12 +1,14 @@
--- 01, "One set's record", by quantity: its limit, its count, its threshold and its enable bit; and how long N must last.
+-- 01, "One set's record", by quantity: its limit, its count, its threshold and its enable bit; and whether the need is met.
 use Prim.Native.Nat.{ℕ}
 use mathlib.Core.Bool.{Bool}
+use lib.Dec.{eqb}
 use Rattle.record.specs.declared.Attributes.{Attributes}
 use Rattle.record.specs.declared.Quantity.{Quantity}
 use Rattle.record.specs.declared.Quantity.the-variants.{Reads, Writes, Time}
 use Rattle.record.specs.declared.Events.{Events}
 use Rattle.record.specs.declared.Thresholds.{Thresholds}
 use Rattle.record.specs.declared.Spent.{Spent}
+use Rattle.record.specs.declared.Recovery.{Recovery}
 use Rattle.record.specs.declared.State.{State}
 use Rattle.record.specs.Parts.{spends, havingSpent}
 
@@ -34,9 +36,9 @@ enables Reads e = e .reads
 enables Writes e = e .writes
 enables Time e = e .time
 
--- "Select D needs N time equal to minimum high", "N time stops at high": how long N must last, said once
-abbrev pub need : Attributes → ℕ
-need a = a .«minimum_high»
+-- 01: "N time equal to minimum high", amended by 02: "07C1h and cases 8 and 9 now speak of the need, read from one place."
+abbrev pub needMet : Recovery → Bool
+needMet r = eqb (r .time) (r .need)
 
 -- n of a quantity spent
 abbrev pub spendsOf : Quantity → ℕ → Spent → Spent

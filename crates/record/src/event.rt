@@ -14,7 +14,7 @@ use crate::Window;
 use crate::quantities::enabled_by;
 use crate::quantities::floored;
 use crate::quantities::limit_of;
-use crate::quantities::need_of;
+use crate::quantities::need_met;
 use crate::quantities::spent_of;
 use crate::quantities::threshold_of;
 use octets::casts::bit_of;
@@ -36,12 +36,13 @@ pub fn estimate_of(a: Attributes, s: State, q: Quantity) -> u64
     let most = limit_of(a, q) as u64;
     let p = s.spent;
     let count = spent_of(p, q) as u64;
-    let need = need_of(a);
+    let r = s.recovery;
+    let met = need_met(r);
     let w = s.window;
     match w {
         Window::Off => 0,
         Window::D => floored(most, count),
-        Window::N => { if s.recovery.time == need { most } else { 0 } }
+        Window::N => { if met { most } else { 0 } }
     }
 }
 

@@ -10,7 +10,6 @@ use crate::Spent;
 use crate::State;
 use crate::Window;
 use crate::event::some_event;
-use crate::quantities::need_of;
 
 pub const NUMBER_MAXIMUM: u32 = 65535;
 
@@ -74,13 +73,13 @@ fn none_spent(p: Spent) -> bool
 fn within_need(a: Attributes, r: Recovery) -> bool
     ensures { λ b. ⌜ b ≡ withinNeed a r ⌝ }
 {
-    r.time <= need_of(a)
+    (a.minimum_low <= r.need) & (r.need <= a.minimum_high) & (r.time <= r.need)
 }
 
 fn none_recovered(r: Recovery) -> bool
     ensures { λ b. ⌜ b ≡ noneRecovered r ⌝ }
 {
-    r.time == 0
+    (r.time == 0) & (r.need == 0)
 }
 
 pub fn state_legal(a: Attributes, s: State) -> bool

@@ -77,9 +77,10 @@ pub struct Spent {
     pub time: u32,
 }
 
-// What is recovered in N: the time in it. Zero outside N.
+// What is recovered in N: the time in it, and the need, which it must reach before D may be selected. Both zero outside N.
 pub struct Recovery {
     pub time: u32,
+    pub need: u32,
 }
 
 // What the rules read and change.

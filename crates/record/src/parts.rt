@@ -41,16 +41,16 @@ pub fn nothing_spent() -> Spent
     spent(0, 0, 0)
 }
 
-pub fn recovered(time: u32) -> Recovery
-    ensures { λ r. ⌜ r ≡ recovers time ⌝ }
+pub fn recovered(time: u32, need: u32) -> Recovery
+    ensures { λ r. ⌜ r ≡ recovers time need ⌝ }
 {
-    Recovery { time }
+    Recovery { time, need }
 }
 
 pub fn nothing_recovered() -> Recovery
     ensures { λ r. ⌜ r ≡ noRecovery ⌝ }
 {
-    recovered(0)
+    recovered(0, 0)
 }
 
 pub fn state_of(window: Window, config: Config, spent: Spent, recovery: Recovery) -> State

@@ -1,11 +1,12 @@
-// The limit, count, threshold and enable bit of each quantity.
+// The limit, count, threshold and enable bit of each quantity, and whether the need is met.
 ghost use mathlib.Core.Path.{_≡_};
 ghost use Prim.Native.Nat.{_+_, _-_, min};
-ghost use Rattle.record.specs.Quantities.{limit, spentOf, threshold, enables, spendsOf, spending, need};
+ghost use Rattle.record.specs.Quantities.{limit, spentOf, threshold, enables, spendsOf, spending, needMet};
 use crate::Attributes;
 use crate::Config;
 use crate::Events;
 use crate::Quantity;
+use crate::Recovery;
 use crate::Spent;
 use crate::State;
 use crate::Thresholds;
@@ -73,11 +74,11 @@ pub fn with_spent(s: State, q: Quantity, n: u32) -> State
     r
 }
 
-// The one place that says how long N must last before D may be selected.
-pub fn need_of(a: Attributes) -> u32
-    ensures { λ r. ⌜ r ≡ need a ⌝ }
+// The one place that says whether N has lasted long enough: for a select D, and for the estimates.
+pub fn need_met(r: Recovery) -> bool
+    ensures { λ b. ⌜ b ≡ needMet r ⌝ }
 {
-    a.minimum_high
+    r.time == r.need
 }
 
 pub fn floored(a: u64, b: u64) -> u64

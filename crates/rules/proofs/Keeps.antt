@@ -1,5 +1,5 @@
 -- Every rule keeps a legal set legal.
-use mathlib.Core.Path.{_≡_, refl}
+use mathlib.Core.Path.{_≡_, refl, ap}
 use mathlib.Core.Bool.{Bool, true, false, _&&_}
 use Prim.Native.Nat.{ℕ, _+_, _-_, _≤_, min}
 use native.Mathlib.Omega.{arith}
@@ -11,19 +11,21 @@ use Rattle.record.specs.declared.Attributes.{Attributes}
 use Rattle.record.specs.declared.Window.{Window}
 use Rattle.record.specs.declared.Window.the-variants.{Off, D, N}
 use Rattle.rules.specs.declared.Cause.{Cause}
-use Rattle.rules.specs.declared.Cause.the-variants.{Excursion}
+use Rattle.rules.specs.declared.Cause.the-variants.{Enable, Disable, SelectD, SelectN, Excursion, Exceeded, TimeUp}
 use Rattle.record.specs.declared.Quantity.{Quantity}
 use Rattle.record.specs.declared.Quantity.the-variants.{Reads, Writes, Time}
 use Rattle.record.specs.declared.Config.{Config}
 use Rattle.record.specs.declared.State.{State}
 use Rattle.record.specs.declared.Effect.{Effect}
-use Rattle.record.specs.Quantities.{limit, spentOf, need, spending}
-use Rattle.record.specs.Windows.{byWindow}
+use Rattle.record.specs.Quantities.{limit, spentOf, spending}
+use Rattle.record.specs.Windows.{byWindow, windowNo}
 use Rattle.rules.specs.Changes.{movedBy}
-use Rattle.rules.specs.Door.{into, stays, going}
+use Rattle.rules.specs.Need.{needAfter}
+use Rattle.rules.specs.Door.{timeInD, needBy, into, stays, going}
 use Rattle.rules.specs.Rules.{configure, selecting, causeOfMode, isOver, causeOver, recovering, leaving, charge, readEvent, writeEvent, excursionEvent, tick, clearingRead}
 use Rattle.record.specs.Legal.{legalAttributes, noneSpent, withinLimits, noneRecovered, withinNeed, legalState, legalNotes, KeepsState, KeepsRecord}
 use Rattle.record.proofs.Settling.{notes-kept}
+use Rattle.rules.proofs.Needs.{time-positive, low-high, need-within}
 
 -- of three tests that hold together
 three : (a b c : Bool) → a && b && c ≡ true → (a ≡ true) × (b ≡ true) × (c ≡ true)
@@ -40,16 +42,49 @@ keeps-record rule k r h =
 
 -- ---- the door
 
--- a set has some time in D
-time-positive : (a : Attributes) → legalAttributes a ≡ true → 1 ≤ a .«time_maximum»
-time-positive a h = search (and-left, and-right, leb-true) depth 12
+-- a need that N may have
+record Allowed (a : Attributes) (n : ℕ) : Type 0 where
+  low : leb (a .«minimum_low») n ≡ true
+  high : leb n (a .«minimum_high») ≡ true
+
+allowed-after : (a : Attributes) (s : ℕ) → legalAttributes a ≡ true → s ≤ a .«time_maximum» → Allowed a (needAfter a s)
+allowed-after a s h l =
+    let w = need-within a s h l in
+    record { low = le-leb _ _ (w .0); high = le-leb _ _ (w .1) }
+
+allowed-high : (a : Attributes) → legalAttributes a ≡ true → Allowed a (a .«minimum_high»)
+allowed-high a h = record { low = le-leb _ _ (low-high a h); high = le-leb (a .«minimum_high») (a .«minimum_high») (omega arith) }
+
+disabling-leaves : (w : Window) → movedBy w Disable ≡ N → ⊥
+disabling-leaves Off e = omega (arith, ap windowNo e)
+disabling-leaves D e = omega (arith, ap windowNo e)
+disabling-leaves N e = omega (arith, ap windowNo e)
+
+select-d-leaves : (w : Window) → movedBy w SelectD ≡ N → ⊥
+select-d-leaves Off e = omega (arith, ap windowNo e)
+select-d-leaves D e = omega (arith, ap windowNo e)
+select-d-leaves N e = omega (arith, ap windowNo e)
+
+-- that of every cause which leads to N
+allowed : (c : Cause) (a : Attributes) (s : State) → legalAttributes a ≡ true → movedBy (s .window) c ≡ N → Allowed a (needBy c a (timeInD a s))
+allowed Enable a s h e = allowed-high a h
+allowed Disable a s h e = absurd (disabling-leaves (s .window) e)
+allowed SelectD a s h e = absurd (select-d-leaves (s .window) e)
+allowed SelectN a s h e = allowed-after a (timeInD a s) h (omega arith)
+allowed Excursion a s h e = allowed-after a (timeInD a s) h (omega arith)
+allowed Exceeded a s h e = allowed-after a (timeInD a s) h (omega arith)
+allowed TimeUp a s h e = allowed-after a (a .«time_maximum») h (omega arith)
 
 -- every window's start is legal
-starts : (w : Window) (a : Attributes) (s : State) → legalAttributes a ≡ true → legalState a (into w s) ≡ true
-starts Off a s h = refl
-starts D a s h =
+starts :
+    (w : Window) (c : Cause) (a : Attributes) (s : State) → legalAttributes a ≡ true → (w ≡ N → Allowed a (needBy c a (timeInD a s)))
+    → legalState a (into w c a s) ≡ true
+starts Off c a s h n = refl
+starts D c a s h n =
     rw (le-leb 0 (a .«reads_typical») (omega arith), le-leb 0 (a .«writes_typical») (omega arith), lt-ltb 0 (a .«time_maximum») (omega (arith, time-positive a h)))
-starts N a s h = le-leb 0 (need a) (omega arith)
+starts N c a s h n =
+    let m = n refl in
+    rw (m .low, m .high, le-leb 0 (needBy c a (timeInD a s)) (omega arith))
 
 through : (b : Bool) (a : Attributes) (s t : State) → legalState a s ≡ true → legalState a t ≡ true → legalState a (if b then s else t) ≡ true
 through true a s t p q = p
@@ -58,7 +93,9 @@ through false a s t p q = q
 -- the door keeps a legal set legal, whatever the cause
 pub door-keeps : (c : Cause) (a : Attributes) (s : State) → legalAttributes a ≡ true → legalState a s ≡ true → legalState a (going c a s) ≡ true
 unfolding going
-door-keeps c a s h l = through (stays c (s .window)) a s (into (movedBy (s .window) c) s) l (starts (movedBy (s .window) c) a s h)
+door-keeps c a s h l =
+    let w = movedBy (s .window) c in
+    through (stays c (s .window)) a s (into w c a s) l (starts w c a s h (allowed c a s h))
 
 -- ---- the rules that go through it: enable, disable, select, excursion
 
@@ -87,10 +124,13 @@ by-window D a e f g p q r = q refl
 by-window N a e f g p q r = r refl
 
 -- more N time, up to the need
-recovering-keeps : (t : ℕ) (a : Attributes) (s : State) → s .window ≡ N → legalState a s ≡ true → legalState a (recovering t a s) ≡ true
+recovering-keeps : (t : ℕ) (a : Attributes) (s : State) → s .window ≡ N → legalState a s ≡ true → legalState a (recovering t s) ≡ true
 recovering-keeps t a s e l =
     let m : noneSpent (s .spent) && withinNeed a (s .recovery) ≡ true = rw e at l in
-    rw (e, and-left (noneSpent (s .spent)) _ m, le-leb (min (s .recovery .time + t) (need a)) (need a) (omega arith))
+    let p = both (noneSpent (s .spent)) _ m in
+    let n = s .recovery .need in
+    let w = three (leb (a .«minimum_low») n) (leb n (a .«minimum_high»)) _ (p .1) in
+    rw (e, p .0, w .0, w .1, le-leb (min (s .recovery .time + t) n) n (omega arith))
 
 -- out of D by exceeded or time up is into N
 into-n : (q : Quantity) (a : Attributes) (s : State) → s .window ≡ D → going (causeOver q) a s .window ≡ N

@@ -1,4 +1,5 @@
 pub mod OffRefuses
+pub mod Needs
 pub mod Leads
 pub mod Over
 pub mod Keeps

@@ -40,7 +40,7 @@ through false s t p = p
 -- the door leaves it
 pub door-stays : (c : Cause) (a : Attributes) (s : State) → going c a s .config ≡ s .config
 unfolding going
-door-stays c a s = through (stays c (s .window)) s (into (movedBy (s .window) c) s) refl
+door-stays c a s = through (stays c (s .window)) s (into (movedBy (s .window) c) c a s) refl
 
 leaving-stays : (q : Quantity) (n : ℕ) (a : Attributes) (s : State) → leaving q n a s .config ≡ s .config
 unfolding leaving

@@ -1,3 +1,4 @@
 pub mod Changes
+pub mod Need
 pub mod Door
 pub mod Rules

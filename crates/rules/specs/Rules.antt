@@ -3,7 +3,7 @@
 use mathlib.Core.Path.{_≡_}
 use Prim.Native.Nat.{ℕ, _+_, _-_, _<_, min}
 use mathlib.Core.Bool.{Bool, true, false, not, _&&_}
-use lib.Dec.{ltb, leb, eqb}
+use lib.Dec.{ltb, leb}
 use Rattle.octets.specs.Choice.{if_then_else_}
 use Rattle.record.specs.declared.Attributes.{Attributes}
 use Rattle.record.specs.declared.Window.{Window}
@@ -19,7 +19,7 @@ use Rattle.record.specs.declared.Config.{Config}
 use Rattle.record.specs.declared.State.{State}
 use Rattle.record.specs.declared.Effect.{Effect}
 use Rattle.record.specs.Parts.{recovers, configured, havingRecovered, effectOf}
-use Rattle.record.specs.Quantities.{limit, spentOf, threshold, enables, need, spending}
+use Rattle.record.specs.Quantities.{limit, spentOf, threshold, enables, needMet, spending}
 use Rattle.record.specs.Windows.{byWindow, sameWindow}
 use Rattle.rules.specs.Changes.{movedBy}
 use Rattle.rules.specs.Door.{carriedBy, going}
@@ -50,10 +50,10 @@ configure on c a s = still (configured c (going (causeOfMode on) a s))
 
 -- ---- select D and select N
 
--- "D, if time is spent": "Select D needs N time equal to minimum high."
-abbrev pub isEarly : Cause → Attributes → State → Bool
-isEarly c a s =
-    sameWindow (s .window) N && sameWindow (movedBy (s .window) c) D && not (eqb (s .recovery .time) (need a))
+-- "D, if time is spent". 01: "Select D needs N time equal to minimum high.", amended by 02: "07C1h and cases 8 and 9 now speak of the
+-- need"
+abbrev pub isEarly : Cause → State → Bool
+isEarly c s = sameWindow (s .window) N && sameWindow (movedBy (s .window) c) D && not (needMet (s .recovery))
 
 -- what happens on the way into a window: "Entering D with the estimate already below counts as such a fall", of all three
 abbrev pub onEntering : Window → Attributes → Config → Events
@@ -81,13 +81,13 @@ causeOver Reads = Exceeded
 causeOver Writes = Exceeded
 causeOver Time = TimeUp
 
--- t ms more of N time: "N time stops at high."
-abbrev pub recovering : ℕ → Attributes → State → State
-recovering t a s = havingRecovered (recovers (min (s .recovery .time + t) (need a))) s
+-- t ms more of N time. 01: "N time stops at high.", amended by 02: "N time stops at the need"
+abbrev pub recovering : ℕ → State → State
+recovering t s = havingRecovered (recovers (min (s .recovery .time + t) (s .recovery .need)) (s .recovery .need)) s
 
 -- out of D with n of a quantity, which is over its limit: through the door, and what the cause carries over as N time
 unfoldable pub leaving : Quantity → ℕ → Attributes → State → State
-leaving q n a s = recovering (carriedBy (causeOver q) (n - limit q a)) a (going (causeOver q) a s)
+leaving q n a s = recovering (carriedBy (causeOver q) (n - limit q a)) (going (causeOver q) a s)
 
 -- k more of a quantity in D. "An item that drives the set out of D first reckons the warning with the floored estimate, then leaves",
 -- and bit 14 stands beside the warning.
@@ -116,7 +116,7 @@ mediaRule media.Excursion a s = excursionEvent a s
 
 -- "A tick of t (0..86,400,000 ms) goes to every set."
 abbrev pub tick : ℕ → Attributes → State → Effect
-tick t a s = byWindow (s .window) (still s) (charge Time t a s) (still (recovering t a s))
+tick t a s = byWindow (s .window) (still s) (charge Time t a s) (still (recovering t s))
 
 -- ---- a clearing read
 
@@ -124,7 +124,7 @@ tick t a s = byWindow (s .window) (still s) (charge Time t a s) (still (recoveri
 abbrev pub clearingRead : State → Effect
 clearingRead s = effectOf s noEvents true
 
--- ---- Laws, each proved under its name, in lower case and with dashes: those on warnings in proofs/Warnings.antt, the last in
+-- ---- Laws, each proved under its name, in lower case and with dashes: those on warnings in proofs/Warnings.antt, the last two in
 -- proofs/Leads.antt.
 
 -- "threshold 0 never warns": no estimate is below it
@@ -148,3 +148,12 @@ abbrev pub CarriesNone : Type 0
 CarriesNone =
     (q : Quantity) (n : ℕ) (a : Attributes) (s : State) → s .window ≡ D → (causeOver q ≡ TimeUp → ⊥)
     → leaving q n a s .recovery .time ≡ 0
+
+-- in N the need stays what it was when N began: no media event, tick, select N or clearing read reckons it anew
+abbrev pub NeedStays : Type 0
+NeedStays =
+    (a : Attributes) (s : State) → s .window ≡ N
+    → ((m : Media) → mediaRule m a s .state .recovery .need ≡ s .recovery .need)
+    × ((t : ℕ) → tick t a s .state .recovery .need ≡ s .recovery .need)
+    × (selecting cause.SelectN a s .state .recovery .need ≡ s .recovery .need)
+    × (clearingRead s .state .recovery .need ≡ s .recovery .need)

@@ -1,14 +1,16 @@
 // The one door between windows: nothing else makes a window, and all that hangs on the cause stands here.
 ghost use mathlib.Core.Path.{_≡_};
+ghost use Prim.Native.Nat.{_≤_};
 ghost use Rattle.rules.specs.Changes.{movedBy};
-ghost use Rattle.rules.specs.Door.{restarts, carriedBy, into, stays, going};
+ghost use Rattle.rules.specs.Door.{restarts, carriedBy, timeInD, needBy, needIn, into, stays, going};
 use crate::Cause;
 use crate::changes::moved;
+use crate::need::need_after;
 use record::Attributes;
 use record::State;
 use record::Window;
-use record::parts::nothing_recovered;
 use record::parts::nothing_spent;
+use record::parts::recovered;
 use record::parts::state_of;
 use record::windows::same_window;
 
@@ -41,12 +43,48 @@ pub(crate) fn carried_over(c: Cause, excess: u64) -> u64
     }
 }
 
-// A window's start, with nothing spent and nothing recovered.
-fn start(w: Window, s: State) -> State
-    ensures { λ r. ⌜ r ≡ into w s ⌝ }
+fn time_in_d(a: Attributes, s: State) -> u32
+    ensures { λ r. ⌜ (r ≡ timeInD a s) × (r ≤ a .«time_maximum») ⌝ }
 {
-    let c = s.config;
-    state_of(w, c, nothing_spent(), nothing_recovered())
+    let n = s.spent.time;
+    let most = a.time_maximum;
+    if n < most { n } else { most }
+}
+
+// How long N must last that a cause leads to.
+fn need_by(c: Cause, a: Attributes, s: u32) -> u32
+    requires { ⌜ s ≤ a .«time_maximum» ⌝ }
+    ensures { λ r. ⌜ r ≡ needBy c a s ⌝ }
+{
+    match c {
+        Cause::Enable => a.minimum_high,
+        Cause::Disable => 0,
+        Cause::SelectD => 0,
+        Cause::SelectN => need_after(a, s),
+        Cause::Excursion => need_after(a, s),
+        Cause::Exceeded => need_after(a, s),
+        Cause::TimeUp => need_after(a, a.time_maximum),
+    }
+}
+
+// Only N has a need.
+fn need_in(w: Window, c: Cause, a: Attributes, s: State) -> u32
+    ensures { λ r. ⌜ r ≡ needIn w c a s ⌝ }
+{
+    match w {
+        Window::Off => 0,
+        Window::D => 0,
+        Window::N => need_by(c, a, time_in_d(a, s)),
+    }
+}
+
+// A window's start, with nothing spent and no time in N.
+fn start(w: Window, c: Cause, a: Attributes, s: State) -> State
+    ensures { λ r. ⌜ r ≡ into w c a s ⌝ }
+{
+    let config = s.config;
+    let need = need_in(w, c, a, s);
+    state_of(w, config, nothing_spent(), recovered(0, need))
 }
 
 fn is_staying(c: Cause, v: Window, next: Window) -> bool
@@ -66,7 +104,7 @@ pub(crate) fn go_from(v: Window, c: Cause, a: Attributes, s: State) -> State
     if is_staying(c, v, next) {
         s
     } else {
-        start(next, s)
+        start(next, c, a, s)
     }
 }
 

@@ -1,6 +1,7 @@
 // What each item does to one set. A rule sees attributes and state, never events or the listed mark, and answers an effect.
 pub mod changes;
 pub mod door;
+mod need;
 
 ghost use mathlib.Core.Path.{_≡_};
 ghost use Prim.Native.Nat.{_+_};
@@ -29,7 +30,7 @@ use record::parts::recovered;
 use record::quantities::capped;
 use record::quantities::floored;
 use record::quantities::limit_of;
-use record::quantities::need_of;
+use record::quantities::need_met;
 use record::quantities::spent_of;
 use record::quantities::with_spent;
 use record::windows::same_window;
@@ -94,11 +95,11 @@ pub fn set_mode(a: Attributes, s: State, on: bool, c: Config) -> Effect
 }
 
 // Where the need is met the table is not asked.
-pub fn is_early(a: Attributes, s: State, c: Cause) -> bool
-    ensures { λ r. ⌜ r ≡ isEarly c a s ⌝ }
+pub fn is_early(s: State, c: Cause) -> bool
+    ensures { λ r. ⌜ r ≡ isEarly c s ⌝ }
 {
-    let need = need_of(a);
-    if s.recovery.time == need {
+    let r = s.recovery;
+    if need_met(r) {
         return false;
     }
     let w = s.window;
@@ -153,11 +154,12 @@ fn cause_over(q: Quantity) -> Cause
 }
 
 // t ms more of N time, up to the need.
-fn recover(a: Attributes, s: State, t: u64) -> State
-    ensures { λ r. ⌜ r ≡ recovering t a s ⌝ }
+fn recover(s: State, t: u64) -> State
+    ensures { λ r. ⌜ r ≡ recovering t s ⌝ }
 {
-    let n = capped(s.recovery.time, t, need_of(a));
-    let more = recovered(n);
+    let need = s.recovery.need;
+    let n = capped(s.recovery.time, t, need);
+    let more = recovered(n, need);
     let mut r = s;
     r.recovery = more;
     r
@@ -171,7 +173,6 @@ fn leave_d(a: Attributes, s: State, q: Quantity, n: u64) -> State
     let most = limit_of(a, q) as u64;
     let c = cause_over(q);
     recover(
-        a,
         go_from(Window::D, c, a, s),
         carried_over(c, floored(n, most)),
     )
@@ -258,7 +259,7 @@ pub fn tick_event(a: Attributes, s: State, t: u32) -> Effect
     match w {
         Window::Off => keep_still(s),
         Window::D => charge_by(a, s, Quantity::Time, t),
-        Window::N => keep_still(recover(a, s, t as u64)),
+        Window::N => keep_still(recover(s, t as u64)),
     }
 }
 

@@ -7,7 +7,7 @@ use Prim.Native.Nat.{ℕ, _+_, _*_, _^_}
 use Rattle.record.specs.declared.Window.the-variants.{D, N}
 use Rattle.record.specs.declared.Attributes.{Attributes}
 use Rattle.record.specs.declared.Record.{Record}
-use Rattle.record.specs.Parts.{configOf, nothingSpent, recovers, stateOf}
+use Rattle.record.specs.Parts.{configOf, nothingSpent, recovers, noRecovery, stateOf}
 use Rattle.record.specs.Event.{eventsOf, noEvents}
 use Rattle.replies.specs.Numbers.{success, tooShort, tooManyRequests, requestWaits, notSaveable, invalidField}
 use Rattle.replies.specs.Answers.{toldOf}
@@ -43,7 +43,7 @@ abbrev pub inD : Attributes → Bool → Record
 inD a listed =
     record {
       attributes = a;
-      state = stateOf D (configOf (eventsOf false false false true true) 0 0 0) nothingSpent (recovers 0);
+      state = stateOf D (configOf (eventsOf false false false true true) 0 0 0) nothingSpent noRecovery;
       notes = record { events = eventsOf false false false listed false; listed = listed };
     }
 
@@ -52,7 +52,7 @@ abbrev pub spent : Record
 spent =
     record {
       attributes = seven;
-      state = stateOf N (configOf (eventsOf true false false false false) 101 0 0) nothingSpent (recovers 20);
+      state = stateOf N (configOf (eventsOf true false false false false) 101 0 0) nothingSpent (recovers 20 20);
       notes = record { events = noEvents; listed = false };
     }
 

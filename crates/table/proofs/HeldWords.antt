@@ -1,6 +1,6 @@
 -- The words of a record, and how much of each legal word its field holds: all of it.
 use mathlib.Core.Path.{_≡_, refl, sym, ap, _∙_}
-use mathlib.Core.Bool.{Bool, true, false, not, _&&_, _||_}
+use mathlib.Core.Bool.{Bool, true, false, not, _&&_, _||_, and-assoc}
 use mathlib.Core.List.{List}
 use Prim.Native.Nat.{ℕ, _%_, _^_, _≤_}
 use native.Mathlib.Omega.{arith}
@@ -24,20 +24,31 @@ use Rattle.table.specs.LegalWords.{word, staticsLegal, inD, inN, withinB
 bits-within : (e : Events) → withinBits (bitsOf e) ≡ true
 bits-within e = eq-eqb _ _ (ap bitsOf (sym (events-back e)) ∙ masked (bitsOf e))
 
+-- of tests that hold together, the first of two is asked last
+last-first : (x m l h : Bool) → x && m && (l && h) ≡ x && (l && h && m)
+last-first true true true true = refl
+last-first true true true false = refl
+last-first true true false h = refl
+last-first true false true true = refl
+last-first true false true false = refl
+last-first true false false h = refl
+last-first false m l h = refl
+
 changing-words :
-    (w : Window) (b : Bool) (r o t m reads writes time need : ℕ) → b ≡ true
+    (w : Window) (b : Bool) (r o t m n reads writes time high low : ℕ) → b ≡ true
     → b && leb (windowNo w) 2
     && zeroOutside (eqb (windowNo w) 1) (leb r reads) r
     && zeroOutside (eqb (windowNo w) 1) (leb o writes) o
     && zeroOutside (eqb (windowNo w) 1) (ltb t time) t
-    && zeroOutside (eqb (windowNo w) 2) (leb m need) m
+    && zeroOutside (eqb (windowNo w) 2) (leb m n) m
+    && zeroOutside (eqb (windowNo w) 2) (leb low n && leb n high) n
     ≡ byWindow w
-    (eqb r 0 && eqb o 0 && eqb t 0 && eqb m 0)
-    (leb r reads && leb o writes && ltb t time && eqb m 0)
-    (eqb r 0 && eqb o 0 && eqb t 0 && leb m need)
-changing-words Off b r o t m reads writes time need h = rw h
-changing-words D b r o t m reads writes time need h = rw h
-changing-words N b r o t m reads writes time need h = rw h
+    (eqb r 0 && eqb o 0 && eqb t 0 && (eqb m 0 && eqb n 0))
+    (leb r reads && leb o writes && ltb t time && (eqb m 0 && eqb n 0))
+    (eqb r 0 && eqb o 0 && eqb t 0 && (leb low n && leb n high && leb m n))
+changing-words Off b r o t m n reads writes time high low h = rw h (and-assoc (eqb r 0 && eqb o 0 && eqb t 0) (eqb m 0) (eqb n 0))
+changing-words D b r o t m n reads writes time high low h = rw h (and-assoc (leb r reads && leb o writes && ltb t time) (eqb m 0) (eqb n 0))
+changing-words N b r o t m n reads writes time high low h = rw h (last-first (eqb r 0 && eqb o 0 && eqb t 0) (leb m n) (leb low n) (leb n high))
 
 some-of : (i o t x y : Bool) → not (eqb (bitsOf (eventsOf i o t x y)) 0) ≡ someEvent (eventsOf i o t x y)
 some-of true o t x y = rw (ne-eqb (bitsOf (eventsOf true o t x y)) 0 (λ z. omega arith))
@@ -60,7 +71,7 @@ words-of-record r =
     let a = r .attributes in
     let s = r .state in
     rw (
-      changing-words (s .window) _ (s .spent .reads) (s .spent .writes) (s .spent .time) (s .recovery .time) _ _ _ _ (bits-within (s .config .enabled)),
+      changing-words (s .window) _ (s .spent .reads) (s .spent .writes) (s .spent .time) (s .recovery .time) (s .recovery .need) _ _ _ _ _ (bits-within (s .config .enabled)),
       bits-within (r .notes .events),
       some-bits (r .notes .events),
       mark-words (r .notes .listed) (someEvent (r .notes .events)),
@@ -94,6 +105,11 @@ statics a h =
       low = search (and-left, and-right, leb-true) depth 16;
     }
 
+-- N time is within the need, and the need within its limit; both are zero outside N
+within-need : (here : Bool) (m n low high : ℕ) → zeroOutside here (leb m n) m ≡ true → zeroOutside here (leb low n && leb n high) n ≡ true → (m ≤ high) × (n ≤ high)
+within-need true m n low high h k = let t = leb-true m n h in let l = leb-true n high (and-right (leb low n) (leb n high) k) in (omega arith, l)
+within-need false m n low high h k = let z = eqb-true m 0 h in let y = eqb-true n 0 k in (omega arith, omega arith)
+
 -- a count that is within its limit in one window, and zero outside it, is within it anyway
 within : (here b : Bool) (x most : ℕ) → (b ≡ true → x ≤ most) → zeroOutside here b x ≡ true → x ≤ most
 within true b x most f h = f h
@@ -106,16 +122,19 @@ pub record Changing (a : List ℕ) : Type 0 where
   writes : word a 19 ≤ word a 9
   time : word a 20 ≤ word a 10
   recovery : word a 21 ≤ word a 11
+  need : word a 22 ≤ word a 11
 
 pub changing : (a : List ℕ) → changingLegal a ≡ true → Changing a
 changing a h =
+    let w = within-need (inN a) (word a 21) (word a 22) (word a 12) (word a 11) (search (and-left, and-right) depth 16) (search (and-left, and-right) depth 16) in
     record {
       enev = search (and-left, and-right) depth 16;
       window = search (and-left, and-right, leb-true) depth 16;
       reads = within (inD a) _ _ _ (leb-true _ _) (search (and-left, and-right) depth 16);
       writes = within (inD a) _ _ _ (leb-true _ _) (search (and-left, and-right) depth 16);
       time = within (inD a) _ _ _ (λ e. let l = ltb-true (word a 20) (word a 10) e in omega arith) (search (and-left, and-right) depth 16);
-      recovery = within (inN a) _ _ _ (leb-true _ _) (search (and-left, and-right) depth 16);
+      recovery = w .0;
+      need = w .1;
     }
 
 -- word k is what so many bits hold of it
@@ -136,6 +155,7 @@ pub record Held (a : List ℕ) : Type 0 where
   pub writes : Whole a 19 32
   pub time : Whole a 20 32
   pub recovery : Whole a 21 32
+  pub need : Whole a 22 32
 
 pub held : (a : List ℕ) → wordsLegal a ≡ true → Held a
 held a h =
@@ -156,4 +176,5 @@ held a h =
       writes = mod-eq-of-lt (omega (arith, s .writes, c .writes));
       time = mod-eq-of-lt (omega (arith, s .time, c .time));
       recovery = mod-eq-of-lt (omega (arith, s .high, c .recovery));
+      need = mod-eq-of-lt (omega (arith, s .high, c .need));
     }

@@ -4,7 +4,7 @@ use mathlib.Core.Bool.{Bool, true, false, not, _&&_, _||_, and-true, and-false, 
 use mathlib.Core.List.{List, [], _∷_}
 use Prim.Native.Nat.{ℕ, zero, suc, _≤_}
 use native.Mathlib.Omega.{arith}
-use borrow.Author.Tests.{eqb-true, le-ltb, lt-leb, eq-eqb, ne-eqb}
+use borrow.Author.Tests.{eqb-true, le-ltb, le-leb, lt-leb, eq-eqb, ne-eqb}
 use lib.Dec.{leb, ltb, eqb}
 use lib.ListN.{length, drop-of-length-le}
 use lib.Seq.{drop-cons}
@@ -42,9 +42,10 @@ bit-held (suc (suc n)) h = absurd (omega arith)
 module _ (a : List ℕ) (long : length a ≡ rowWords) where
   shape : a ≡ word a 0 ∷ word a 1 ∷ word a 2 ∷ word a 3 ∷ word a 4 ∷ word a 5 ∷ word a 6 ∷ word a 7
       ∷ word a 8 ∷ word a 9 ∷ word a 10 ∷ word a 11 ∷ word a 12 ∷ word a 13 ∷ word a 14 ∷ word a 15
-      ∷ word a 16 ∷ word a 17 ∷ word a 18 ∷ word a 19 ∷ word a 20 ∷ word a 21 ∷ word a 22 ∷ word a 23 ∷ []
+      ∷ word a 16 ∷ word a 17 ∷ word a 18 ∷ word a 19 ∷ word a 20 ∷ word a 21 ∷ word a 22 ∷ word a 23
+      ∷ word a 24 ∷ []
   shape =
-      let end : length a ≤ 24 = omega arith in
+      let end : length a ≤ 25 = omega arith in
       rw (
         drop-cons a 1 0 (omega arith),
         drop-cons a 2 0 (omega arith),
@@ -69,6 +70,7 @@ module _ (a : List ℕ) (long : length a ≡ rowWords) where
         drop-cons a 21 0 (omega arith),
         drop-cons a 22 0 (omega arith),
         drop-cons a 23 0 (omega arith),
+        drop-cons a 24 0 (omega arith),
         drop-of-length-le a end,
       ) at (drop-cons a 0 0 (omega arith))
 
@@ -77,14 +79,14 @@ module _ (a : List ℕ) (long : length a ≡ rowWords) where
   held-words h =
       let p = both (staticsLegal a && changingLegal a) (notesLegal a) h in
       let q = both (staticsLegal a) (changingLegal a) (p .0) in
-      let n = both (withinBits (word a 22)) _ (p .1) in
+      let n = both (withinBits (word a 23)) _ (p .1) in
       let f = held a h in
       let c = changing a (q .1) in
       let w = window-held (word a 17) (c .window) in
-      let l = bit-held (word a 23) (mark-small _ _ (n .1)) in
+      let l = bit-held (word a 24) (mark-small _ _ (n .1)) in
       let v : bitsOf (eventsIn (word a 13)) ≡ word a 13 = masked (word a 13) ∙ sym (eqb-true _ _ (c .enev)) in
-      let e : bitsOf (eventsIn (word a 22)) ≡ word a 22 = masked (word a 22) ∙ sym (eqb-true _ _ (n .0)) in
-      rw (f .id, f .group, f .random, f .optimal, f .«reads_typical», f .«writes_typical», f .«time_maximum», f .high, f .low, f .reads, f .writes, f .time, f .recovery, w, v, e, l) shape
+      let e : bitsOf (eventsIn (word a 23)) ≡ word a 23 = masked (word a 23) ∙ sym (eqb-true _ _ (n .0)) in
+      rw (f .id, f .group, f .random, f .optimal, f .«reads_typical», f .«writes_typical», f .«time_maximum», f .high, f .low, f .reads, f .writes, f .time, f .recovery, f .need, w, v, e, l) shape
 
   -- ---- so the two are the same
 
@@ -143,6 +145,16 @@ below-one (suc x) = rw (le-ltb (suc x) 1 (omega arith), ne-eqb (suc x) 0 (λ z. 
 pub at-most : (here : Bool) (x most : ℕ) → leb x (if here then most else 0) ≡ zeroOutside here (leb x most) x
 at-most true x most = refl
 at-most false x most = at-zero x
+
+-- N time and the need, which is at least low in N
+pub needed :
+    (x here : Bool) (m n low : ℕ) (within : Bool)
+    → x && leb m n && (leb (if here then low else 0) n && zeroOutside here within n)
+    ≡ x && zeroOutside here (leb m n) m && zeroOutside here (leb low n && within) n
+needed x true m n low within = refl
+needed x false m zero low within = rw (at-zero m)
+needed x false m (suc n) low within =
+    rw (le-leb 0 (suc n) (omega arith), ne-eqb (suc n) 0 (λ z. omega arith), and-false (x && leb m (suc n)), and-false (x && eqb m 0))
 
 pub below : (here : Bool) (x most : ℕ) → ltb x (if here then most else 1) ≡ zeroOutside here (ltb x most) x
 below true x most = refl

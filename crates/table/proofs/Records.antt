@@ -36,7 +36,7 @@ pub record-back : (r : Record) → legalRecord r ≡ true → recordOf (wordsOf 
 unfolding wordsOf recordOf
 record-back r h =
     let f = held (wordsOf r) (words-of-record r ∙ h) in
-    rw (f .id, f .group, f .random, f .optimal, f .«reads_typical», f .«writes_typical», f .«time_maximum», f .high, f .low, f .reads, f .writes, f .time, f .recovery, window-back (r .state .window), events-back (r .state .config .enabled), events-back (r .notes .events), bit-back (r .notes .listed))
+    rw (f .id, f .group, f .random, f .optimal, f .«reads_typical», f .«writes_typical», f .«time_maximum», f .high, f .low, f .reads, f .writes, f .time, f .recovery, f .need, window-back (r .state .window), events-back (r .state .config .enabled), events-back (r .notes .events), bit-back (r .notes .listed))
 
 -- what a legal row is
 pub record Row (a : List ℕ) : Type 0 where

@@ -126,7 +126,7 @@ words-fit r l f =
                                               narrow _ (h .time),
                                               (
                                                 narrow _ (h .recovery),
-                                                (bits-small (r .notes .events), (mark-small (r .notes .listed), tt)),
+                                                (narrow _ (h .need), (bits-small (r .notes .events), (mark-small (r .notes .listed), tt))),
                                               ),
                                             ),
                                           ),

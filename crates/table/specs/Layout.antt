@@ -16,14 +16,14 @@ use Rattle.record.specs.Event.{bit, bitsOf, eventsIn}
 
 -- how many words a set takes
 abbrev pub rowWords : ℕ
-rowWords = 24
+rowWords = 25
 
 -- where the words begin that items other than Set Features 13h change, and where among them the notes
 abbrev pub windowWord : ℕ
 windowWord = 17
 
 abbrev pub notesWord : ℕ
-notesWord = 22
+notesWord = 23
 
 -- a record as its words
 abbrev pub fieldWords : Record → List ℕ
@@ -50,6 +50,7 @@ fieldWords r =
     ∷ r .state .spent .writes
     ∷ r .state .spent .time
     ∷ r .state .recovery .time
+    ∷ r .state .recovery .need
     ∷ bitsOf (r .notes .events)
     ∷ bit (r .notes .listed)
     ∷ []
@@ -84,10 +85,10 @@ stateAt ws =
     (windowIn (getD ws 17 0))
     (configOf (eventsIn (getD ws 13 0)) (getD ws 14 0) (getD ws 15 0) (getD ws 16 0))
     (spends (getD ws 18 0 % 2 ^ 32) (getD ws 19 0 % 2 ^ 32) (getD ws 20 0 % 2 ^ 32))
-    (recovers (getD ws 21 0 % 2 ^ 32))
+    (recovers (getD ws 21 0 % 2 ^ 32) (getD ws 22 0 % 2 ^ 32))
 
 abbrev pub notesAt : List ℕ → Notes
-notesAt ws = record { events = eventsIn (getD ws 22 0); listed = eqb (getD ws 23 0) 1 }
+notesAt ws = record { events = eventsIn (getD ws 23 0); listed = eqb (getD ws 24 0) 1 }
 
 unfoldable pub recordOf : List ℕ → Record
 recordOf ws = record { attributes = attributesAt ws; state = stateAt ws; notes = notesAt ws }

@@ -50,8 +50,8 @@ inN a = eqb (word a 17) 2
 abbrev pub zeroOutside : Bool → Bool → ℕ → Bool
 zeroOutside here within x = if here then within else eqb x 0
 
--- words 13 to 21: ENEV, the window, "reads and writes at most their typicals and time below maximum, all zero outside D; N time
--- at most high and zero outside N"; a threshold is any number
+-- words 13 to 22: ENEV, the window, "reads and writes at most their typicals and time below maximum, all zero outside D"; 01: "N time
+-- at most high and zero outside N", amended by 02: "need from low to high in N, else 0; N time at most need"; a threshold is any number
 abbrev pub changingLegal : List ℕ → Bool
 changingLegal a =
     withinBits (word a 13)
@@ -59,11 +59,12 @@ changingLegal a =
     && zeroOutside (inD a) (leb (word a 18) (word a 8)) (word a 18)
     && zeroOutside (inD a) (leb (word a 19) (word a 9)) (word a 19)
     && zeroOutside (inD a) (ltb (word a 20) (word a 10)) (word a 20)
-    && zeroOutside (inN a) (leb (word a 21) (word a 11)) (word a 21)
+    && zeroOutside (inN a) (leb (word a 21) (word a 22)) (word a 21)
+    && zeroOutside (inN a) (leb (word a 12) (word a 22) && leb (word a 22) (word a 11)) (word a 22)
 
--- words 22 and 23: the events, and "listed only if some event bit is set"
+-- words 23 and 24: the events, and "listed only if some event bit is set"
 abbrev pub notesLegal : List ℕ → Bool
-notesLegal a = withinBits (word a 22) && (eqb (word a 23) 0 || (eqb (word a 23) 1 && not (eqb (word a 22) 0)))
+notesLegal a = withinBits (word a 23) && (eqb (word a 24) 0 || (eqb (word a 24) 1 && not (eqb (word a 23) 0)))
 
 abbrev pub wordsLegal : List ℕ → Bool
 wordsLegal a = staticsLegal a && changingLegal a && notesLegal a

@@ -24,20 +24,20 @@ use record::windows::window_no;
 // The header: the number of this layout, which every change of it raises, the number of sets, and the desk.
 pub const HEADER: usize = 10;
 
-pub const LAYOUT: u64 = 65538;
+pub const LAYOUT: u64 = 65539;
 
 // Where in it the desk begins.
 pub const DESK_START: usize = 2;
 
-pub const ROW: usize = 24;
+pub const ROW: usize = 25;
 
 // Places in a row: of the window, after which come all words that items other than Set Features 13h change; of the events, with
 // which the notes begin; and of the listed mark.
 pub const WINDOW: usize = 17;
 
-pub const NOTES: usize = 22;
+pub const NOTES: usize = 23;
 
-pub const LISTED: usize = 23;
+pub const LISTED: usize = 24;
 
 fn field_words(r: Record) -> [u64; ROW]
     ensures { λ a. ⌜ a ≡ fieldWords r ⌝ }
@@ -59,6 +59,7 @@ fn field_words(r: Record) -> [u64; ROW]
     let writes = from_u32(r.state.spent.writes);
     let time = from_u32(r.state.spent.time);
     let n_time = from_u32(r.state.recovery.time);
+    let need = from_u32(r.state.recovery.need);
     [
         r.attributes.id.0 as u64,
         r.attributes.group.0 as u64,
@@ -82,6 +83,7 @@ fn field_words(r: Record) -> [u64; ROW]
         writes,
         time,
         n_time,
+        need,
         bits,
         listed,
     ]
@@ -134,17 +136,17 @@ fn state_at(a: [u64; ROW]) -> State
         (a[19] % 4294967296) as u32,
         (a[20] % 4294967296) as u32,
     );
-    let recovery = recovered((a[21] % 4294967296) as u32);
+    let recovery = recovered((a[21] % 4294967296) as u32, (a[22] % 4294967296) as u32);
     state_of(window, config, spent, recovery)
 }
 
 fn notes_at(a: [u64; ROW]) -> Notes
     ensures { λ r. ⌜ r ≡ notesAt a ⌝ }
 {
-    let events = events_in(a[22]);
+    let events = events_in(a[23]);
     Notes {
         events: events,
-        listed: a[23] == 1,
+        listed: a[24] == 1,
     }
 }
 

@@ -63,16 +63,24 @@ fn changing_legal(a: [u64; ROW]) -> bool
     let reads = limit_in(d, a[8], 0);
     let writes = limit_in(d, a[9], 0);
     let time = limit_in(d, a[10], 1);
-    let n_time = limit_in(n, a[11], 0);
-    enev & (a[17] <= 2) & (a[18] <= reads) & (a[19] <= writes) & (a[20] < time) & (a[21] <= n_time)
+    let high = limit_in(n, a[11], 0);
+    let low = limit_in(n, a[12], 0);
+    let need = (low <= a[22]) & (a[22] <= high);
+    enev
+        & (a[17] <= 2)
+        & (a[18] <= reads)
+        & (a[19] <= writes)
+        & (a[20] < time)
+        & (a[21] <= a[22])
+        & need
 }
 
 fn notes_legal(a: [u64; ROW]) -> bool
     ensures { λ r. ⌜ r ≡ notesLegal a ⌝ }
 {
-    let events = within_bits(a[22]);
-    let most = limit_in(a[22] == 0, 0, 1);
-    events & (a[23] <= most)
+    let events = within_bits(a[23]);
+    let most = limit_in(a[23] == 0, 0, 1);
+    events & (a[24] <= most)
 }
 
 // Whether a row is legal and its identifier is above the one before.

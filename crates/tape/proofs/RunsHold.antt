@@ -1,6 +1,7 @@
 -- The table of specs/Runs.antt holds, by computation.
 use mathlib.Core.Path.{refl}
 use Rattle.octets.specs.Pages.{place}
+use Rattle.rules.specs.Need.{needAfter}
 use Rattle.rules.specs.Door.{going}
 use Rattle.rules.specs.Rules.{leaving}
 use Rattle.table.specs.Layout.{wordsOf, recordOf}
@@ -18,5 +19,5 @@ use Rattle.tape.specs.Text.{places}
 use Rattle.tape.specs.Runs.{runs, RunsHold}
 
 pub runs-hold : RunsHold
-unfolding runs body places place going leaving wordsOf recordOf recordsOf deskAt legalRow legalTable writtenRows written aggregatePage commandIn kindBy commandMeaning meaning refusalOf effectOn concerns touched deskOn atDesk answer stepWords setUp setUpStatus newSets
+unfolding runs body places place needAfter going leaving wordsOf recordOf recordsOf deskAt legalRow legalTable writtenRows written aggregatePage commandIn kindBy commandMeaning meaning refusalOf effectOn concerns touched deskOn atDesk answer stepWords setUp setUpStatus newSets
 runs-hold = (refl, (refl, (refl, (refl, (refl, (refl, (refl, (refl, (refl, (refl, (refl, tt)))))))))))

@@ -2,6 +2,8 @@ use mathlib.Core.Path.{_∙_}
 use Prim.Native.Nat.{_+_, _*_}
 use native.Mathlib.Omega.{arith}
 use borrow.Author.Needs.{needs}
+use Rattle.table.specs.Layout.{rowWords}
+use Rattle.table.specs.Card.{headerWords}
 use Rattle.region.proofs.Words.{row-in}
 use Rattle.region.proofs.fetch.Statement.{statement}
 use Rattle.region.proofs.fetch.Tie as tie
@@ -15,4 +17,4 @@ fetch-spec =
     (λ c.
     let p = c .before in
     let s = p .before .before .before in
-    p .words-in .ensures ∙ row-in (s .args .bytes .now) (s .args .slot) (8 * 10 + s .args .slot * (8 * 24)) (s .pre) (omega arith)))
+    p .words-in .ensures ∙ row-in (s .args .bytes .now) (s .args .slot) (8 * headerWords + s .args .slot * (8 * rowWords)) (s .pre) (omega arith)))

@@ -2,7 +2,8 @@ use mathlib.Core.Path.{_∙_}
 use Prim.Native.Nat.{ℕ, _+_, _*_}
 use native.Mathlib.Omega.{arith}
 use borrow.Author.Needs.{needs}
-use Rattle.table.specs.Layout.{windowWord, notesWord, wordsOf}
+use Rattle.table.specs.Layout.{rowWords, windowWord, notesWord, wordsOf}
+use Rattle.table.specs.Card.{headerWords}
 use Rattle.table.specs.Table.{row}
 use Rattle.table.proofs.Staying.{config-stays, notes-stay}
 use Rattle.table.proofs.Records.{length-words}
@@ -28,4 +29,4 @@ store-silent-spec =
     let l = s .pre .0 in
     let m = s .pre .1 .moved in
     (rw (w .words-of .ensures) at (p .words-out .ensures))
-    ∙ part-out b (wordsOf a) i windowWord notesWord (8 * 10 + i * (8 * 24) + 8 * 17) (λ (j : ℕ). w .before .slice-known .given j .fits) (length-words a) (l .room) (omega arith) (omega arith) (config-stays (row (tableIn b) i) a (l .legal) (m .attributes) (m .config)) (notes-stay (row (tableIn b) i) a (l .legal) (s .pre .1 .notes)) (omega arith)))
+    ∙ part-out b (wordsOf a) i windowWord notesWord (8 * headerWords + i * (8 * rowWords) + 8 * windowWord) (λ (j : ℕ). w .before .slice-known .given j .fits) (length-words a) (l .room) (omega arith) (omega arith) (config-stays (row (tableIn b) i) a (l .legal) (m .attributes) (m .config)) (notes-stay (row (tableIn b) i) a (l .legal) (s .pre .1 .notes)) (omega arith)))

@@ -1,6 +1,5 @@
 use mathlib.Core.Path.{sym, _∙_}
 use borrow.Author.Needs.{needs}
-use borrow.Author.Tests.{eq-eqb, ne-eqb}
 use Rattle.record.proofs.event.estimate_of.Statement.{statement}
 use Rattle.record.proofs.event.estimate_of.Tie as tie
 
@@ -10,7 +9,11 @@ estimate-of-spec =
     (tie.spec
     (λ c κs. search needs) (λ c. search needs) (λ c κs. search needs) (λ c. search needs) (λ c κs. search needs)
     (λ c. search needs) (λ c. search needs) (λ c κs. search needs) (λ c. search needs)
-    (λ c. simp (c .enum-told .given .1, c .before .before .need-of .ensures, c .before .before .before .spent-of .ensures, c .before .before .before .before .before .limit-of .ensures))
-    (λ c. simp (c .floored .ensures, c .before .enum-told2 .given .1, c .before .before .before .need-of .ensures, c .before .before .before .before .spent-of .ensures, c .before .before .before .before .before .before .limit-of .ensures))
-    (λ c. simp (eq-eqb _ _ (c .if1 .taken ∙ c .before .before .before .before .need-of .ensures), c .before .before .enum-told3 .given .1, c .before .before .before .before .need-of .ensures, c .before .before .before .before .before .spent-of .ensures, c .before .before .before .before .before .before .before .limit-of .ensures))
-    (λ c. simp (ne-eqb _ _ (λ e. c .if1 .left (e ∙ sym (c .before .before .before .before .need-of .ensures))), c .before .before .enum-told3 .given .1, c .before .before .before .before .need-of .ensures, c .before .before .before .before .before .spent-of .ensures, c .before .before .before .before .before .before .before .limit-of .ensures)))
+    (λ c. simp (c .enum-told .given .1))
+    (λ c. simp (c .floored .ensures, c .before .enum-told2 .given .1, c .before .before .before .before .before .spent-of .ensures, c .before .before .before .before .before .before .before .limit-of .ensures))
+    (λ c.
+    let m = c .before .before .before in
+    simp (sym (m .need-met .ensures) ∙ c .if1 .taken, c .before .enum-told3 .given .1, m .before .before .before .before .limit-of .ensures))
+    (λ c.
+    let m = c .before .before .before in
+    simp (sym (m .need-met .ensures) ∙ c .if1 .left, c .before .enum-told3 .given .1)))

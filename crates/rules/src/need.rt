@@ -1,0 +1,35 @@
+// How long N must last after a window. All numbers have 32 bits, so that nothing here wraps in 64, whatever the record.
+ghost use mathlib.Core.Path.{_≡_};
+ghost use Prim.Native.Nat.{_*_, _≤_, _<_};
+ghost use Rattle.rules.specs.Need.{upBy, needAfter};
+use record::Attributes;
+use record::quantities::floored;
+
+// The largest product of two such numbers leaves room for one of them more, which `rounded_up` adds.
+fn product(x: u64, s: u32) -> u64
+    requires { ⌜ x < 4294967296 ⌝ }
+    ensures { λ r. ⌜ (r ≡ x * s) × (r ≤ 18446744065119617025) ⌝ }
+{
+    x * (s as u64)
+}
+
+fn rounded_up(x: u64, most: u32) -> u64
+    requires { ⌜ (x ≤ 18446744065119617025) × (0 < most) ⌝ }
+    ensures { λ r. ⌜ r ≡ upBy x most ⌝ }
+{
+    (x + ((most - 1) as u64)) / (most as u64)
+}
+
+// After a window of s ms. A maximum of 0 is in no legal record.
+pub(crate) fn need_after(a: Attributes, s: u32) -> u32
+    requires { ⌜ s ≤ a .«time_maximum» ⌝ }
+    ensures { λ r. ⌜ r ≡ needAfter a s ⌝ }
+{
+    let low = a.minimum_low as u64;
+    let most = a.time_maximum;
+    if most == 0 {
+        return a.minimum_low;
+    }
+    let more = floored(a.minimum_high as u64, low);
+    (low + rounded_up(product(more, s), most)) as u32
+}
