@@ -65,7 +65,7 @@ static inline int card_is_refusal(uint16_t number)
 #define CARD_INVALID_LOG_PAGE 0x0109u  /* a log page other than 0Ah and 0Bh */
 #define CARD_NOT_SAVEABLE 0x010Du      /* Set Features with Save */
 #define CARD_TOO_SHORT 0x07C2u         /* the data, the answer buffer or (set-up) the table's region is shorter than needed */
-#define CARD_TOO_EARLY 0x07C1u         /* the deterministic window was selected before the set had spent its minimum high outside it */
+#define CARD_TOO_EARLY 0x07C1u         /* the deterministic window was selected before the set had spent its need outside it (below) */
 
 /* what the others may be refused with */
 #define CARD_UNKNOWN_SET 0x07C0u /* a media event of a set that is not in the table */
@@ -129,10 +129,10 @@ static inline int card_is_refusal(uint16_t number)
 #define CARD_COMMAND_STACK_BYTES 2048
 #define CARD_STACK_BYTES 768 /* of any function but card_command */
 
-/* How many bytes the table of so many sets takes: 272 for one set, 12,368 for 64. Bytes after them are neither read nor written. A
+/* How many bytes the table of so many sets takes: 280 for one set, 12,880 for 64. Bytes after them are neither read nor written. A
    table keeps the number of its layout: one of another layout, as another version of the library may have written it, is
    CARD_BAD_TABLE, and set-up makes it anew. */
-#define CARD_TABLE_BYTES(sets) (8u * (10u + 24u * (sets)))
+#define CARD_TABLE_BYTES(sets) (8u * (10u + 25u * (sets)))
 
 /*
  * Makes the table of a card with new sets: mode off, no event, nothing listed; notices off, no request, no mask and no flag.
@@ -168,6 +168,11 @@ uint16_t card_set_up(uint8_t *table, size_t table_len, const uint8_t *bodies, si
  * A successful read of page 0Ah without Retain Asynchronous Event clears that set's events, and its entry on page 0Bh. One of page 0Bh
  * lifts the mask and drops the flag of notices.
  *
+ * Set Features 14h selects a set's deterministic window only once the set has spent its need outside it; before, it is refused with
+ * CARD_TOO_EARLY, and page 0Ah shows estimates of 0. After a deterministic window of s ms, however it ended, the need is NDWIN time
+ * minimum low + (minimum high - minimum low) x s / DTWIN time maximum, rounded up; after a window that lasted its maximum, and after
+ * Set Features 13h has enabled the mode, it is minimum high.
+ *
  * Identify shows the first CARD_SET_LIST_ENTRIES (31) sets whose identifier is at or above CDW11 15:0, rising; byte 0 counts the
  * entries of that answer. For the others the host asks again from the last identifier plus one: asking so until a count below 31,
  * or a last identifier of 65,535, gives each set once, in at most three answers.
@@ -192,7 +197,7 @@ uint16_t card_excursion(uint8_t *table, size_t table_len, uint16_t set, uint8_t 
 
 /*
  * So many milliseconds have gone by, for every set of the card. In the deterministic window, time at or past its maximum ends the
- * window and sets event bit 14, and the excess counts as time outside it, which stops at minimum high.
+ * window and sets event bit 14, and the excess counts as time outside it, which stops at the set's need (above).
  * A tick of 0 ms changes nothing: it tests whether a table is legal.
  *
  * answer, reply: as of card_command. Nothing is written to the answer buffer; dword 0 and the length are zero; a notice may stand in
