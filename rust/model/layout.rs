@@ -14,7 +14,7 @@ pub const ROW_BYTES: usize = WORD_BYTES * ROW_WORDS;
 pub const BODY_BYTES: usize = 84;
 
 /// The number of this layout: a table that has another was written by another version.
-pub const LAYOUT_NUMBER: u64 = 0x1_0002;
+pub const LAYOUT_NUMBER: u64 = 0x1_0003;
 
 /// The place of each word in the header. The identifiers of the waiting requests have four, the oldest first.
 pub mod header {
@@ -51,8 +51,9 @@ pub mod field {
     pub const WRITES: usize = 19;
     pub const TIME: usize = 20;
     pub const N_TIME: usize = 21;
-    pub const EVENTS: usize = 22;
-    pub const LISTED: usize = 23;
+    pub const NEED: usize = 22;
+    pub const EVENTS: usize = 23;
+    pub const LISTED: usize = 24;
 }
 
 /// How many bytes the table of so many sets takes.
@@ -196,13 +197,14 @@ pub fn read_row(bytes: &[u8]) -> Option<Set> {
         window: window(row(field::WINDOW))?,
         charges: [row(field::READS), row(field::WRITES), row(field::TIME)],
         n_time: row(field::N_TIME),
+        need: row(field::NEED),
         events: row(field::EVENTS).try_into().ok()?,
         listed: mark(row(field::LISTED))?,
     })
 }
 
 fn row_of(set: &Set) -> [u64; ROW_WORDS] {
-    let Set { attributes, window, configuration, charges, n_time, events, listed } = set;
+    let Set { attributes, window, configuration, charges, n_time, need, events, listed } = set;
     [
         attributes.identifier.into(),
         attributes.group.into(),
@@ -226,6 +228,7 @@ fn row_of(set: &Set) -> [u64; ROW_WORDS] {
         charges[1],
         charges[2],
         *n_time,
+        *need,
         (*events).into(),
         (*listed).into(),
     ]

@@ -46,6 +46,14 @@ impl Attributes {
             && self.minimum_low <= self.minimum_high
     }
 
+    /// 02: "The need after a window of s ms is low + (high - low) x s / maximum, rounded up": one more than the whole part, where the
+    /// division leaves a rest.
+    fn need_after(&self, s: u64) -> u64 {
+        let product = (self.minimum_high - self.minimum_low) * s;
+        let has_rest = product % self.time_maximum != 0;
+        self.minimum_low + product / self.time_maximum + u64::from(has_rest)
+    }
+
     /// The typical of reads or writes, or the time maximum.
     pub fn limit(&self, quantity: Quantity) -> u64 {
         match quantity {
@@ -137,6 +145,8 @@ pub struct Set {
     pub charges: [u64; 3],
     /// Time in the non-deterministic window.
     pub n_time: u64,
+    /// 02: "The need after a window": how long this time has to become. Outside the non-deterministic window 0.
+    pub need: u64,
     pub events: u16,
     pub listed: bool,
 }
@@ -150,6 +160,7 @@ impl Set {
             configuration: Configuration { enev: 0, thresholds: [0; 3] },
             charges: [0; 3],
             n_time: 0,
+            need: 0,
             events: 0,
             listed: false,
         }
@@ -159,6 +170,7 @@ impl Set {
     pub fn is_legal(&self) -> bool {
         self.attributes.in_range()
             && self.charges_are_legal()
+            && self.need_is_legal()
             && self.n_time_is_legal()
             && self.configuration.enev & !EVENT_MASK == 0
             && self.events & !EVENT_MASK == 0
@@ -173,16 +185,24 @@ impl Set {
         }
     }
 
-    /// "N time at most high and zero outside N".
+    /// 02: "Legal: need from low to high in N, else 0". Any such need is legal, whatever window came before.
+    fn need_is_legal(&self) -> bool {
+        match self.window {
+            Window::N => (self.attributes.minimum_low..=self.attributes.minimum_high).contains(&self.need),
+            Window::Off | Window::D => self.need == 0,
+        }
+    }
+
+    /// 01: "N time at most high and zero outside N". 02: "N time at most need."
     fn n_time_is_legal(&self) -> bool {
         match self.window {
-            Window::N => self.n_time <= self.attributes.minimum_high,
+            Window::N => self.n_time <= self.need,
             Window::Off | Window::D => self.n_time == 0,
         }
     }
 
-    /// "Estimates. In D: typical less count, or maximum less time, floor 0. In N: 0 until N time equals high, then typical or
-    /// maximum. Off: 0."
+    /// 01: "Estimates. In D: typical less count, or maximum less time, floor 0. In N: 0 until N time equals high, then typical or
+    /// maximum. Off: 0." 02: "the estimates in N wait for the need".
     pub fn estimate(&self, quantity: Quantity) -> u64 {
         let limit = self.attributes.limit(quantity);
         match self.window {
@@ -193,8 +213,10 @@ impl Set {
         }
     }
 
+    /// 01: "N time equals high". 02: "07C1h and cases 8 and 9 now speak of the need, read from one place.": from here, and so do the
+    /// estimates.
     fn n_time_is_spent(&self) -> bool {
-        self.n_time == self.attributes.minimum_high
+        self.n_time == self.need
     }
 
     /// "Enabling always starts N afresh with time 0, also from D or N. Both enable and disable store ENEV (masked with C007h) and
@@ -204,7 +226,8 @@ impl Set {
         self.configuration = Configuration { enev: configuration.enev & EVENT_MASK, ..configuration.clone() };
     }
 
-    /// "Select D needs N time equal to minimum high."
+    /// 01: "Select D needs N time equal to minimum high." 02: "Document 01 demands minimum high after every window. That was a
+    /// simplification; [...] 07C1h and cases 8 and 9 now speak of the need".
     pub fn too_early_for_d(&self) -> bool {
         self.window == Window::N && !self.n_time_is_spent()
     }
@@ -275,19 +298,31 @@ impl Set {
         self.listed = false;
     }
 
-    /// "N time stops at high."
+    /// 01: "N time stops at high." 02: "N time stops at the need".
     fn pass_n_time(&mut self, milliseconds: u64) {
-        self.n_time = (self.n_time + milliseconds).min(self.attributes.minimum_high);
+        self.n_time = (self.n_time + milliseconds).min(self.need);
     }
 
-    /// Moves the set by the table of windows. A window entered starts at zero; the one already held goes on as it is, unless by
-    /// enabling, which always starts afresh.
+    /// Moves the set by the table of windows. A window entered starts at zero, and with its need; the one already held goes on as it
+    /// is, unless by enabling, which always starts afresh.
     fn change(&mut self, cause: Cause) {
         let next = NEXT[self.window as usize][cause as usize].expect("no item brings this cause in this window");
         if next != self.window || cause == Cause::Enable {
+            self.need = self.need_in(next, cause);
             self.window = next;
             self.charges = [0; 3];
             self.n_time = 0;
+        }
+    }
+
+    /// The need of a window that the set is about to enter. 02: "The need after a window of s ms is [...]; after enabling it is high.
+    /// Time up counts s as maximum." Else s is the time spent in D. "need from low to high in N, else 0".
+    fn need_in(&self, next: Window, cause: Cause) -> u64 {
+        match (next, cause) {
+            (Window::Off | Window::D, _) => 0,
+            (Window::N, Cause::Enable) => self.attributes.minimum_high,
+            (Window::N, Cause::TimeUp) => self.attributes.need_after(self.attributes.time_maximum),
+            (Window::N, _) => self.attributes.need_after(self.charges[Quantity::Time as usize]),
         }
     }
 

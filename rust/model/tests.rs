@@ -1,12 +1,12 @@
-//! 01's whole run and its edges, 02's W1 and 02's W2, on the set of the run and on others like it.
+//! 01's whole run and its edges, and W1, W2 and W4 of 02, on the set of the run and on others like it.
 
 use crate::commands::{
     ASYNCHRONOUS_EVENT_REQUEST, CONFIGURATION, EVENT_NOTICES, GET_FEATURES, GET_LOG_PAGE, IDENTIFY, LIST_PAGE, SET_FEATURES,
     SET_LIST, SET_PAGE, WINDOW,
 };
-use crate::layout::{header, little_endian, put_word, read_table, table_bytes, write_table};
+use crate::layout::{field, header, little_endian, put_word, read_body, read_table, table_bytes, write_table, HEADER_BYTES};
 use crate::notices::Notices;
-use crate::set::{Set, Window};
+use crate::set::{Quantity, Set, Window, DAY, QUANTITIES};
 use crate::{card, status, tape};
 
 /// "Whole run: set 7, typicals 100 and 50, maximum 1000, high 20, low 5."
@@ -50,6 +50,10 @@ fn enable() -> Vec<u8> {
 
 fn select_d() -> Vec<u8> {
     command(SET_FEATURES, [WINDOW.into(), 7, 1, 0])
+}
+
+fn select_n() -> Vec<u8> {
+    command(SET_FEATURES, [WINDOW.into(), 7, 2, 0])
 }
 
 /// Page 0Ah or 0Bh, so many dwords from an offset.
@@ -249,8 +253,10 @@ fn edges_5_to_7_ticks_in_d() {
     }
 }
 
+/// 01: "8* enabled, N time 19, select D: 07C1h. 9* N time 20: D." 02: "cases 8 and 9 now speak of the need", which after enabling is
+/// high, 20.
 #[test]
-fn edges_8_and_9_select_d_when_time_is_spent() {
+fn edges_8_and_9_select_d_when_the_need_is_spent() {
     for (milliseconds, number, window) in [(19, status::TOO_EARLY, Window::N), (20, status::SUCCESS, Window::D)] {
         let mut card = Card::new();
         card.enable(0x4001, [10, 0, 0]);
@@ -508,9 +514,9 @@ fn tens(number: u16) -> Vec<u16> {
 /// 02: "Raise the limit to 64."; "Set-up refuses 65 with 07C4h.", also where the table is too short.
 #[test]
 fn set_up_takes_64_sets_and_refuses_65() {
-    assert_eq!(table_bytes(64), 12_368);
+    assert_eq!(table_bytes(64), 12_880);
     let set_up = |sets: u16, length: usize| card::set_up(&mut vec![0xA5; length], &bodies_of(&tens(sets)));
-    assert_eq!((set_up(64, 12_368), set_up(64, 12_367)), (0x0000, 0x07C2));
+    assert_eq!((set_up(64, 12_880), set_up(64, 12_879)), (0x0000, 0x07C2));
     let mut table = vec![0xA5; 20_000];
     assert_eq!(card::set_up(&mut table, &bodies_of(&tens(65))), 0x07C4);
     assert_eq!(table, [0xA5; 20_000]);
@@ -522,8 +528,8 @@ fn a_table_of_64_sets_is_legal_and_one_of_65_is_not() {
     let mut table = card_of(&tens(64)).0;
     assert_eq!(read_table(&table).expect("the table is legal").sets.len(), 64);
     // A 65th row like the others, and room for it.
-    table.extend_from_within(12_368 - 192..);
-    put_word(&mut table[12_368..], 0, 650);
+    table.extend_from_within(12_880 - 200..);
+    put_word(&mut table[12_880..], 0, 650);
     assert!(read_table(&table).is_some());
     put_word(&mut table, header::SETS, 65);
     assert!(read_table(&table).is_none());
@@ -615,5 +621,202 @@ fn replay_counts_all_bodies() {
     for (sets, expected) in [(64, "sets 64 0000\nend 0\n"), (65, "sets 65 07C4\n"), (100, "sets 100 07C4\n")] {
         let file: Vec<u8> = tens(sets).iter().flat_map(|&set| [vec![tape::SET_ATTRIBUTES], body_of(set)].concat()).collect();
         assert_eq!(printout(&file), expected);
+    }
+}
+
+/// The ways to leave D before the time is up.
+const EARLY_EXITS: [fn(&mut Card); 4] = [
+    |card| assert_eq!(card.give(&select_n(), &[]).0, status::SUCCESS),
+    |card| assert_eq!(card::excursion(&mut card.0, 7, &mut []), status::SUCCESS),
+    |card| card.reads(101),
+    |card| assert_eq!(card::writes(&mut card.0, 7, 51, &mut []), status::SUCCESS),
+];
+
+/// In N with the need of a window of so many ms, left by a select N.
+fn in_n_after(s: u32) -> Card {
+    let mut card = Card::in_d();
+    card.tick(s);
+    EARLY_EXITS[0](&mut card);
+    card
+}
+
+fn is_in_n(card: &Card, need: u64, n_time: u64) -> bool {
+    let set = card.set();
+    (set.window, set.need, set.n_time, set.charges) == (Window::N, need, n_time, [0; 3])
+}
+
+/// 02: "The need after a window of s ms is low + (high - low) x s / maximum, rounded up [...]. With high 20, low 5, maximum 1000:
+/// s = 400 needs 11, s = 401 needs 12." A window of no time needs low, and one of 999 ms 5 + 14.985, thus 20. However D is left, a ms
+/// before the need is too early.
+#[test]
+fn the_need_of_a_window_left_early() {
+    for (s, need) in [(0, 5), (1, 6), (66, 6), (67, 7), (400, 11), (401, 12), (933, 19), (934, 20), (999, 20)] {
+        for leave in EARLY_EXITS {
+            let mut card = Card::in_d();
+            card.tick(s);
+            leave(&mut card);
+            assert!(is_in_n(&card, need, 0));
+            card.tick(need as u32 - 1);
+            assert_eq!(card.give(&select_d(), &[]), (status::TOO_EARLY, 0, vec![]));
+            assert!(is_in_n(&card, need, need - 1));
+            card.tick(1);
+            assert_eq!(card.give(&select_d(), &[]), (status::SUCCESS, 0, vec![]));
+            assert_eq!((card.set().window, card.set().need, card.set().n_time), (Window::D, 0, 0));
+        }
+    }
+}
+
+/// 02: "Time up counts s as maximum.", whatever was spent before the tick; and the excess "stops at the need".
+#[test]
+fn the_need_of_a_full_window() {
+    for (before, last, n_time) in
+        [(0, 1000, 0), (400, 600, 0), (999, 1, 0), (0, 1007, 7), (400, 619, 19), (400, 620, 20), (400, 5000, 20)]
+    {
+        let mut card = Card::in_d();
+        card.tick(before);
+        card.tick(last);
+        assert!(is_in_n(&card, 20, n_time));
+        let number = if n_time == 20 { status::SUCCESS } else { status::TOO_EARLY };
+        assert_eq!(card.give(&select_d(), &[]).0, number);
+    }
+}
+
+/// 02: "after enabling it is high": from off, from D whatever its time, and from N, where a lower need was nearly spent.
+#[test]
+fn the_need_after_enabling() {
+    let mut card = Card::new();
+    assert_eq!((card.set().need, card.set().n_time), (0, 0));
+    card.enable(0, [0; 3]);
+    assert!(is_in_n(&card, 20, 0));
+    let mut card = Card::in_d();
+    card.tick(400);
+    card.enable(0, [0; 3]);
+    assert!(is_in_n(&card, 20, 0));
+    let mut card = in_n_after(400);
+    card.tick(10);
+    card.enable(0, [0; 3]);
+    assert!(is_in_n(&card, 20, 0));
+    card.tick(19);
+    card.enable(0, [0; 3]);
+    assert!(is_in_n(&card, 20, 0));
+}
+
+/// 01: "Selecting the window already held succeeds and changes nothing". Nor does any other item that is given in N change the need,
+/// but disabling.
+#[test]
+fn what_keeps_the_need() {
+    let mut card = in_n_after(400);
+    card.tick(4);
+    let before = card.0.clone();
+    for leave in EARLY_EXITS {
+        leave(&mut card);
+    }
+    assert_eq!(card.give(&select_d(), &[]).0, status::TOO_EARLY);
+    card.give(&log(SET_PAGE, true, 128, 0), &[]);
+    assert_eq!(card.0, before);
+    card.tick(6);
+    assert!(is_in_n(&card, 11, 10));
+    card.tick(86_400_000);
+    assert!(is_in_n(&card, 11, 11));
+    assert_eq!(card.give(&select_n(), &[]).0, status::SUCCESS);
+    assert!(is_in_n(&card, 11, 11));
+    let disable = command(SET_FEATURES, [CONFIGURATION.into(), 7, 0, 0]);
+    assert_eq!(card.give(&disable, &configuration(0, [0; 3])).0, status::SUCCESS);
+    assert_eq!((card.set().window, card.set().need, card.set().n_time), (Window::Off, 0, 0));
+}
+
+/// The need of a short window is not kept for the next: 400 ms, then none, then a full one.
+#[test]
+fn each_window_has_a_need_of_its_own() {
+    let mut card = in_n_after(400);
+    assert!(is_in_n(&card, 11, 0));
+    for (s, need) in [(0, 5), (1000, 20), (401, 12)] {
+        card.tick(20);
+        assert_eq!(card.give(&select_d(), &[]).0, status::SUCCESS);
+        card.tick(s);
+        if s < 1000 {
+            EARLY_EXITS[1](&mut card);
+        }
+        assert!(is_in_n(&card, need, 0));
+    }
+}
+
+/// 02: "the estimates in N wait for the need": 0 until then, then typical or maximum.
+#[test]
+fn estimates_wait_for_the_need() {
+    let mut card = in_n_after(401);
+    let estimates = |card: &mut Card| {
+        let page = card.give(&log(SET_PAGE, true, 128, 0), &[]).2;
+        [128, 136, 144].map(|at| little_endian(&page[at..at + 8]))
+    };
+    assert_eq!(estimates(&mut card), [0; 3]);
+    card.tick(11);
+    assert_eq!(estimates(&mut card), [0; 3]);
+    card.tick(1);
+    assert_eq!(estimates(&mut card), [100, 50, 1000]);
+    card.enable(0, [0; 3]);
+    card.tick(19);
+    assert_eq!(estimates(&mut card), [0; 3]);
+    card.tick(1);
+    assert_eq!(estimates(&mut card), [100, 50, 1000]);
+}
+
+/// What a set with these times needs that leaves D after s ms.
+fn need(maximum: u64, high: u64, low: u64, s: u64) -> u64 {
+    let mut attributes = read_body(body()[..].try_into().expect("a body has its length"));
+    (attributes.time_maximum, attributes.minimum_high, attributes.minimum_low) = (maximum, high, low);
+    let mut set = Set::new(attributes);
+    set.window = Window::D;
+    set.charges[Quantity::Time as usize] = s;
+    assert!(set.is_legal());
+    set.select_n();
+    assert!(set.is_legal() && QUANTITIES.iter().all(|&quantity| set.estimate(quantity) == 0));
+    set.need
+}
+
+/// "rounded up": the least n from low on with (n - low) x maximum at or above (high - low) x s, looked for one by one.
+#[test]
+fn the_need_is_rounded_up() {
+    for maximum in 1..=13 {
+        for high in 1..=9 {
+            for low in 1..=high {
+                for s in 0..maximum {
+                    let least = (low..=high).find(|n| (n - low) * maximum >= (high - low) * s);
+                    assert_eq!(Some(need(maximum, high, low, s)), least);
+                }
+            }
+        }
+    }
+}
+
+/// The largest times: (high - low) x s has 53 bits. 43,200,001 x 86,399,999 / 86,400,000 is 43,200,000.5, less a little.
+#[test]
+fn the_need_of_long_windows() {
+    assert_eq!(need(DAY, DAY, DAY, DAY - 1), 86_400_000);
+    assert_eq!(need(DAY, DAY, 1, 0), 1);
+    assert_eq!(need(DAY, DAY, 1, 1), 2);
+    assert_eq!(need(DAY, DAY, 1, 43_200_001), 43_200_002);
+    assert_eq!(need(DAY, DAY, 1, DAY - 1), 86_400_000);
+    assert_eq!(need(DAY - 1, DAY, 1, 43_200_001), 43_200_002);
+    assert_eq!(need(DAY, 20, 5, 1), 6);
+}
+
+/// 02: "Legal: need from low to high in N, else 0; N time at most need."
+#[test]
+fn needs_that_are_legal() {
+    use field::{NEED, N_TIME};
+    let is_legal = |card: &Card, words: &[(usize, u64)]| {
+        let mut table = card.0.clone();
+        words.iter().for_each(|&(field, word)| put_word(&mut table[HEADER_BYTES..], field, word));
+        read_table(&table).is_some()
+    };
+    let card = in_n_after(400);
+    assert!((5..=20).all(|need| is_legal(&card, &[(NEED, need)]) && is_legal(&card, &[(NEED, need), (N_TIME, need)])));
+    assert!(![0, 1, 4, 21, 1000, 1 << 32 | 11, u64::MAX].iter().any(|&need| is_legal(&card, &[(NEED, need)])));
+    assert!((5..20).all(|need| !is_legal(&card, &[(NEED, need), (N_TIME, need + 1)])));
+    assert!(!is_legal(&card, &[(NEED, 11), (N_TIME, 20)]));
+    for outside in [Card::new(), Card::in_d()] {
+        assert!(is_legal(&outside, &[]));
+        assert!(![1, 5, 20].iter().any(|&need| is_legal(&outside, &[(NEED, need)])));
     }
 }

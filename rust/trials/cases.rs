@@ -7,7 +7,8 @@ use model::commands::{
     ASYNCHRONOUS_EVENT_REQUEST, COMMAND_BYTES, CONFIGURATION, EVENT_NOTICES, GET_FEATURES, GET_LOG_PAGE, IDENTIFY, LIST_PAGE,
     SET_FEATURES, SET_LIST,
 };
-use model::layout::{header, put_word, word_of, BODY_BYTES, HEADER_WORDS, LAYOUT_NUMBER, MAX_SETS, ROW_WORDS, WORD_BYTES};
+use model::layout::{field, header, put_word, word_of, BODY_BYTES, HEADER_BYTES, HEADER_WORDS, LAYOUT_NUMBER, MAX_SETS};
+use model::layout::{ROW_BYTES, ROW_WORDS, WORD_BYTES};
 use model::status;
 use std::collections::BTreeMap;
 
@@ -39,6 +40,7 @@ const FIELDS: [&str; ROW_WORDS] = [
     "writes",
     "time",
     "n-time",
+    "need",
     "events",
     "listed",
 ];
@@ -155,12 +157,13 @@ impl<'a> Cases<'a> {
         }
     }
 
-    /// The table with other words, and as much of it as `words=` lends, which comes last, or `header=`.
+    /// The table with other words, and as much of it as `words=` lends, which comes last, as `rows=` and `header=` do.
     fn with(&self, words: &[&str]) -> Vec<u8> {
         let mut table = self.table.clone();
         for word in words {
             match word.split_once('=').expect("a word and its value") {
                 ("words", lent) => table.truncate(WORD_BYTES * lent_words(lent)),
+                ("rows", "24") => table = without_needs(&table),
                 ("header", kept) => {
                     drop(table.drain(WORD_BYTES * header::ON..WORD_BYTES * HEADER_WORDS));
                     drop(table.drain(..WORD_BYTES * (header::ON - number(kept) as usize)));
@@ -473,6 +476,17 @@ fn put_row(table: &mut [u8], slot: usize, attributes: &Attributes) {
     for field in 0..ROW_WORDS {
         put_word(table, HEADER_WORDS + slot * ROW_WORDS + field, attributes.get(field).copied().unwrap_or(0));
     }
+}
+
+/// The table with rows as the layouts before had them.
+fn without_needs(table: &[u8]) -> Vec<u8> {
+    let (head, rows) = table.split_at(HEADER_BYTES);
+    let mut older = head.to_vec();
+    for row in rows.chunks_exact(ROW_BYTES) {
+        older.extend_from_slice(&row[..WORD_BYTES * field::NEED]);
+        older.extend_from_slice(&row[WORD_BYTES * (field::NEED + 1)..]);
+    }
+    older
 }
 
 fn field_place(name: &str) -> usize {

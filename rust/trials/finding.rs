@@ -169,6 +169,7 @@ fn set_of(slot: usize, identifier: u16) -> Set {
         configuration: Configuration { enev: EVENT_MASK, thresholds: [100 + own, 200 + own, 300 + own] },
         charges: [own, 2 * own, 3 * own],
         n_time: 0,
+        need: 0,
         events: EXCEEDED,
         listed: slot % 2 == 1,
     }
@@ -242,6 +243,7 @@ fn table_for(card: &Card, of: &Naming) -> Vec<u8> {
     if let (Some(slot), Kind::GetWindow) = (of.slot, of.kind) {
         lent.sets[slot].window = Window::N;
         lent.sets[slot].charges = [0; 3];
+        lent.sets[slot].need = lent.sets[slot].attributes.minimum_low;
     }
     let mut table = vec![0; table_bytes(lent.sets.len())];
     write_table(&mut table, &lent);
