@@ -13,7 +13,7 @@ use trials::entries::Entries;
 pub const ENTRIES: Entries = Entries { set_up, command, reads, writes, excursion, tick };
 
 const HEADER_BYTES: usize = 80;
-const ROW_BYTES: usize = 192;
+const ROW_BYTES: usize = 200;
 const CONFIGURATION_BYTES: usize = 512;
 const SET_PAGE_BYTES: usize = 512;
 /// Of page 0Ah, all after these bytes is zero.
@@ -54,8 +54,9 @@ const THRESHOLDS: usize = 14;
 const WINDOW_WORD: usize = 17;
 const CHARGES: usize = 18;
 const N_TIME: usize = 21;
-const EVENTS: usize = 22;
-const LISTED: usize = 23;
+const NEED: usize = 22;
+const EVENTS: usize = 23;
+const LISTED: usize = 24;
 
 // The window that a row holds.
 const OFF: u64 = 0;
@@ -185,7 +186,8 @@ fn is_legal(row: &Row) -> bool {
     let events = get(row, EVENTS);
     let listed = get(row, LISTED);
     let bound = |word: usize| if in_d { get(row, word) } else { 0 };
-    let n_bound = if window == N { get(row, MINIMUM_HIGH) } else { 0 };
+    let n_bound = |word: usize| if window == N { get(row, word) } else { 0 };
+    let need = get(row, NEED);
     get(row, IDENTIFIER) <= 0xFFFF
         && is_from_one(get(row, GROUP), 0xFFFF)
         && (get(row, RANDOM_READ_TYPICAL) | get(row, OPTIMAL_WRITE_SIZE)) >> 32 == 0
@@ -200,7 +202,9 @@ fn is_legal(row: &Row) -> bool {
         && get(row, CHARGES) <= bound(READS_TYPICAL)
         && get(row, CHARGES + 1) <= bound(WRITES_TYPICAL)
         && get(row, CHARGES + 2) < bound(TIME_MAXIMUM) + u64::from(!in_d)
-        && get(row, N_TIME) <= n_bound
+        && get(row, N_TIME) <= need
+        && need >= n_bound(MINIMUM_LOW)
+        && need <= n_bound(MINIMUM_HIGH)
         && listed <= u64::from(events != 0)
 }
 
@@ -285,7 +289,7 @@ fn excursion(table: &mut [u8], set: u16, reply: &mut [u8]) -> u16 {
         if get(row, WINDOW_WORD) != D {
             return false;
         }
-        enter(row, N);
+        leave_early(row);
         note(row, EXCURSION)
     };
     media_event(table, set, rule, reply)
@@ -334,7 +338,7 @@ fn count_in_d(row: &mut Row, quantity: usize, count: u16) -> bool {
     let sum = get(row, CHARGES + quantity) + u64::from(count);
     let warning = charge(row, quantity, sum);
     if sum > get(row, READS_TYPICAL + quantity) {
-        enter(row, N);
+        leave_early(row);
         note(row, warning | EXCEEDED)
     } else {
         note(row, warning)
@@ -347,7 +351,7 @@ fn tick_in_d(row: &mut Row, milliseconds: u64) -> bool {
     let maximum = get(row, TIME_MAXIMUM);
     let warning = charge(row, 2, sum);
     if sum >= maximum {
-        enter(row, N);
+        enter(row, N, get(row, MINIMUM_HIGH));
         pass_n_time(row, sum - maximum);
         note(row, warning | EXCEEDED)
     } else {
@@ -369,13 +373,23 @@ fn charge(row: &mut Row, quantity: usize, sum: u64) -> u64 {
 
 #[inline(always)]
 fn pass_n_time(row: &mut Row, n_time: u64) {
-    put(row, N_TIME, n_time.min(get(row, MINIMUM_HIGH)));
+    put(row, N_TIME, n_time.min(get(row, NEED)));
+}
+
+/// From D to N before the time is up: the set needs as much of the way from low to high as it has spent of its time, rounded up. The
+/// product is far below 64 bits, since each time is at most a day.
+#[inline(always)]
+fn leave_early(row: &mut Row) {
+    let (low, maximum) = (get(row, MINIMUM_LOW), get(row, TIME_MAXIMUM));
+    let way = (get(row, MINIMUM_HIGH) - low) * get(row, CHARGES + 2);
+    enter(row, N, low + (way + maximum - 1) / maximum);
 }
 
 #[inline(always)]
-fn enter(row: &mut Row, window: u64) {
+fn enter(row: &mut Row, window: u64, need: u64) {
     put(row, WINDOW_WORD, window);
-    row[8 * CHARGES..8 * EVENTS].fill(0);
+    row[8 * CHARGES..8 * NEED].fill(0);
+    put(row, NEED, need);
 }
 
 /// Writes an item's events, and answers whether they have listed a set that was not listed.
@@ -468,7 +482,11 @@ fn set_features(header: &mut Header, all: &mut [u8], command: &[u8; COMMAND_BYTE
 
 fn set_configuration(row: &mut Row, enable: bool, data: &[u8]) -> Outcome {
     let data = data.get(..CONFIGURATION_BYTES).ok_or(status::TOO_SHORT)?;
-    enter(row, if enable { N } else { OFF });
+    if enable {
+        enter(row, N, get(row, MINIMUM_HIGH));
+    } else {
+        enter(row, OFF, 0);
+    }
     put(row, ENEV, u64::from(u16_at(data, 0)) & EVENT_MASK);
     row[8 * THRESHOLDS..8 * WINDOW_WORD].copy_from_slice(&data[32..56]);
     success(0, 0, None)
@@ -484,9 +502,9 @@ fn set_window(row: &mut Row, selected: u8) -> Result<bool, u16> {
     if selected == window {
         Ok(false)
     } else if selected == N {
-        enter(row, N);
+        leave_early(row);
         Ok(false)
-    } else if get(row, N_TIME) != get(row, MINIMUM_HIGH) {
+    } else if get(row, N_TIME) != get(row, NEED) {
         Err(status::TOO_EARLY)
     } else {
         Ok(enter_d(row))
@@ -494,7 +512,7 @@ fn set_window(row: &mut Row, selected: u8) -> Result<bool, u16> {
 }
 
 fn enter_d(row: &mut Row) -> bool {
-    enter(row, D);
+    enter(row, D, 0);
     let mut below = 0;
     for quantity in 0..3 {
         below |= u64::from(get(row, READS_TYPICAL + quantity) < get(row, THRESHOLDS + quantity)) << quantity;
@@ -574,7 +592,7 @@ fn set_page(row: &Row) -> [u8; SET_PAGE_USED] {
     let is_estimated = match get(row, WINDOW_WORD) {
         OFF => false,
         D => true,
-        _ => get(row, N_TIME) == get(row, MINIMUM_HIGH),
+        _ => get(row, N_TIME) == get(row, NEED),
     };
     if is_estimated {
         for quantity in 0..3 {
