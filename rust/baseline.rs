@@ -376,8 +376,8 @@ fn pass_n_time(row: &mut Row, n_time: u64) {
     put(row, N_TIME, n_time.min(get(row, NEED)));
 }
 
-/// From D to N before the time is up: the set needs as much of the way from low to high as it has spent of its time, rounded up. The
-/// product is far below 64 bits, since each time is at most a day.
+/// From D to N before the time is up: the set needs as much of the way from low to high as it has spent of its time, rounded up.
+/// The product is far below 64 bits, since each time is at most a day.
 #[inline(always)]
 fn leave_early(row: &mut Row) {
     let (low, maximum) = (get(row, MINIMUM_LOW), get(row, TIME_MAXIMUM));

@@ -46,8 +46,8 @@ impl Attributes {
             && self.minimum_low <= self.minimum_high
     }
 
-    /// 02: "The need after a window of s ms is low + (high - low) x s / maximum, rounded up": one more than the whole part, where the
-    /// division leaves a rest.
+    /// 02: "The need after a window of s ms is low + (high - low) x s / maximum, rounded up": one more than the whole part, where
+    /// the division leaves a rest.
     fn need_after(&self, s: u64) -> u64 {
         let product = (self.minimum_high - self.minimum_low) * s;
         let has_rest = product % self.time_maximum != 0;
@@ -213,8 +213,8 @@ impl Set {
         }
     }
 
-    /// 01: "N time equals high". 02: "07C1h and cases 8 and 9 now speak of the need, read from one place.": from here, and so do the
-    /// estimates.
+    /// 01: "N time equals high". 02: "07C1h and cases 8 and 9 now speak of the need, read from one place.": from here, and so do
+    /// the estimates.
     fn n_time_is_spent(&self) -> bool {
         self.n_time == self.need
     }
@@ -303,7 +303,7 @@ impl Set {
         self.n_time = (self.n_time + milliseconds).min(self.need);
     }
 
-    /// Moves the set by the table of windows. A window entered starts at zero, and with its need; the one already held goes on as it
+    /// Moves the set by the table of windows. A window entered starts at zero, with its need; the one already held goes on as it
     /// is, unless by enabling, which always starts afresh.
     fn change(&mut self, cause: Cause) {
         let next = NEXT[self.window as usize][cause as usize].expect("no item brings this cause in this window");
@@ -315,8 +315,8 @@ impl Set {
         }
     }
 
-    /// The need of a window that the set is about to enter. 02: "The need after a window of s ms is [...]; after enabling it is high.
-    /// Time up counts s as maximum." Else s is the time spent in D. "need from low to high in N, else 0".
+    /// The need of a window that the set is about to enter. 02: "The need after a window of s ms is [...]; after enabling it is
+    /// high. Time up counts s as maximum." Else s is the time spent in D. "need from low to high in N, else 0".
     fn need_in(&self, next: Window, cause: Cause) -> u64 {
         match (next, cause) {
             (Window::Off | Window::D, _) => 0,

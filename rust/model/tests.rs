@@ -253,8 +253,8 @@ fn edges_5_to_7_ticks_in_d() {
     }
 }
 
-/// 01: "8* enabled, N time 19, select D: 07C1h. 9* N time 20: D." 02: "cases 8 and 9 now speak of the need", which after enabling is
-/// high, 20.
+/// 01: "8* enabled, N time 19, select D: 07C1h. 9* N time 20: D." 02: "cases 8 and 9 now speak of the need", which after enabling
+/// is high, 20.
 #[test]
 fn edges_8_and_9_select_d_when_the_need_is_spent() {
     for (milliseconds, number, window) in [(19, status::TOO_EARLY, Window::N), (20, status::SUCCESS, Window::D)] {
@@ -646,8 +646,8 @@ fn is_in_n(card: &Card, need: u64, n_time: u64) -> bool {
 }
 
 /// 02: "The need after a window of s ms is low + (high - low) x s / maximum, rounded up [...]. With high 20, low 5, maximum 1000:
-/// s = 400 needs 11, s = 401 needs 12." A window of no time needs low, and one of 999 ms 5 + 14.985, thus 20. However D is left, a ms
-/// before the need is too early.
+/// s = 400 needs 11, s = 401 needs 12." A window of no time needs low, and one of 999 ms 5 + 14.985, thus 20. However D is left, a
+/// ms before the need is too early.
 #[test]
 fn the_need_of_a_window_left_early() {
     for (s, need) in [(0, 5), (1, 6), (66, 6), (67, 7), (400, 11), (401, 12), (933, 19), (934, 20), (999, 20)] {
@@ -701,8 +701,8 @@ fn the_need_after_enabling() {
     assert!(is_in_n(&card, 20, 0));
 }
 
-/// 01: "Selecting the window already held succeeds and changes nothing". Nor does any other item that is given in N change the need,
-/// but disabling.
+/// 01: "Selecting the window already held succeeds and changes nothing". Nor does any other item that is given in N change the
+/// need, but disabling.
 #[test]
 fn what_keeps_the_need() {
     let mut card = in_n_after(400);
