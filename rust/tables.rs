@@ -7,6 +7,8 @@ use model::status;
 use trials::entries::MODEL;
 
 const RECOVERY: u32 = 20;
+/// Half of what a set may spend in D: so one that leaves it has a need to reckon, and no division is of nothing.
+const SPENT: u32 = DAY as u32 / 2;
 
 /// The state of the named set before the timed call.
 #[derive(Clone, Copy)]
@@ -84,7 +86,10 @@ pub fn prepared(sets: &[u16], named: u16, state: State, others: Others) -> Vec<u
     statuses |= (MODEL.tick)(&mut table, RECOVERY, &mut [], &mut []);
     for set in sets.iter().copied().filter(|&set| is_on(set) && enters_d(set)) {
         statuses |= set_feature(&mut table, WINDOW, set);
-        if matches!(state, State::Listed) && alike(set) {
+    }
+    statuses |= (MODEL.tick)(&mut table, SPENT, &mut [], &mut []);
+    if matches!(state, State::Listed) {
+        for set in sets.iter().copied().filter(|&set| alike(set)) {
             statuses |= (MODEL.excursion)(&mut table, set, &mut []);
         }
     }
