@@ -142,9 +142,14 @@ impl Call {
     /// Offset and dwords of a read of 0Bh.
     pub fn list_part(&self) -> Option<(u64, u64)> {
         self.list_read()?;
+        self.whole_command().map(part_of)
+    }
+
+    /// Set, offset and dwords of a read of 0Ah.
+    pub fn set_page_part(&self) -> Option<(u16, u64, u64)> {
         let command = self.whole_command()?;
-        let count = u64::from(half(command, 44)) << 16 | u64::from(half(command, 42));
-        Some((little_endian(&command[48..56]) as u64, count + 1))
+        let (offset, dwords) = part_of(command);
+        (command[0] == GET_LOG_PAGE && command[40] == SET_PAGE).then(|| (half(command, 46), offset, dwords))
     }
 
     /// The identifier from which an Identify lists sets.
@@ -193,6 +198,12 @@ impl Call {
             }
         }
     }
+}
+
+/// Offset and dwords of a log read.
+fn part_of(command: &[u8]) -> (u64, u64) {
+    let count = u64::from(half(command, 44)) << 16 | u64::from(half(command, 42));
+    (little_endian(&command[48..56]) as u64, count + 1)
 }
 
 fn half(command: &[u8], at: usize) -> u16 {

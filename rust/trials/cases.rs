@@ -1,14 +1,14 @@
 //! Cases with their outcomes worked out by hand. cases.txt says how they are written.
 
 use crate::calls::{Call, Function, Outcome, Regions, Takes};
+use crate::damage::without_needs;
 use crate::entries::MODEL;
 use crate::random::Random;
 use model::commands::{
     ASYNCHRONOUS_EVENT_REQUEST, COMMAND_BYTES, CONFIGURATION, EVENT_NOTICES, GET_FEATURES, GET_LOG_PAGE, IDENTIFY, LIST_PAGE,
     SET_FEATURES, SET_LIST,
 };
-use model::layout::{field, header, put_word, word_of, BODY_BYTES, HEADER_BYTES, HEADER_WORDS, LAYOUT_NUMBER, MAX_SETS};
-use model::layout::{ROW_BYTES, ROW_WORDS, WORD_BYTES};
+use model::layout::{header, put_word, word_of, BODY_BYTES, HEADER_WORDS, LAYOUT_NUMBER, MAX_SETS, ROW_WORDS, WORD_BYTES};
 use model::status;
 use std::collections::BTreeMap;
 
@@ -476,17 +476,6 @@ fn put_row(table: &mut [u8], slot: usize, attributes: &Attributes) {
     for field in 0..ROW_WORDS {
         put_word(table, HEADER_WORDS + slot * ROW_WORDS + field, attributes.get(field).copied().unwrap_or(0));
     }
-}
-
-/// The table with rows as the layouts before had them.
-fn without_needs(table: &[u8]) -> Vec<u8> {
-    let (head, rows) = table.split_at(HEADER_BYTES);
-    let mut older = head.to_vec();
-    for row in rows.chunks_exact(ROW_BYTES) {
-        older.extend_from_slice(&row[..WORD_BYTES * field::NEED]);
-        older.extend_from_slice(&row[WORD_BYTES * (field::NEED + 1)..]);
-    }
-    older
 }
 
 fn field_place(name: &str) -> usize {

@@ -3,10 +3,11 @@
 use crate::calls::{Call, Function, Outcome};
 use crate::holding::Trial;
 use model::commands::{CONFIGURATION, EVENT_NOTICES};
-use model::layout::{header, put_word, read_table, table_bytes, word_of, Card, BODY_BYTES, MAX_SETS};
+use model::layout::{field, header, put_word, read_row, read_table, table_bytes, word_of, Card, BODY_BYTES, HEADER_BYTES};
+use model::layout::{LAYOUT_NUMBER, MAX_SETS, ROW_BYTES, WORD_BYTES};
 use model::notices::Notices;
 use model::pages::{IDENTIFY_ENTRIES, LIST_PAGE_BYTES};
-use model::set::{Quantity, Set, Window};
+use model::set::{Attributes, Quantity, Set, Window};
 use model::status;
 use std::collections::BTreeMap;
 
@@ -38,13 +39,40 @@ const BRANCHES: [&str; 26] = [
     "D to N by excursion",
     "D to N by tick",
     "excess becomes N time",
-    "excess stops at high",
-    "N time reaches high",
+    "excess stops at the need",
+    "N time reaches the need",
     "reads meet their typical",
     "writes meet their typical",
     "data given",
     "damaged table refused",
     "damaged table still legal",
+];
+
+/// What is met of the need, of sets whose low is below their high.
+const NEEDS: [&str; 23] = [
+    "need below high by select N",
+    "need below high by an excursion",
+    "need below high by reads",
+    "need below high by writes",
+    "need high by time up",
+    "need low after no time in D",
+    "need between low and high, rounded up",
+    "need between low and high, an exact quotient",
+    "need raised by enabling again",
+    "need below high kept by select N",
+    "need below high ended by disable",
+    "N time reaches a need below high",
+    "too early for a need below high",
+    "too early for a need below high by 1 ms",
+    "D entered at a need below high",
+    "estimates wait for a need below high",
+    "estimates are there at a need below high",
+    "need 0 in N refused",
+    "need below low refused",
+    "need above high refused",
+    "need outside N refused",
+    "N time above the need refused, though not above high",
+    "table of the layout before refused",
 ];
 
 /// What is met of requests and notices.
@@ -98,7 +126,15 @@ impl Counts {
         let bits = EVENT_BITS.iter().map(|&(_, name)| name);
         Counts {
             statuses: status::ALL.iter().map(|&number| (number, 0)).collect(),
-            branches: BRANCHES.iter().chain(&NOTICES).chain(&MANY).copied().chain(bits).map(|name| (name, 0)).collect(),
+            branches: BRANCHES
+                .iter()
+                .chain(&NEEDS)
+                .chain(&NOTICES)
+                .chain(&MANY)
+                .copied()
+                .chain(bits)
+                .map(|name| (name, 0))
+                .collect(),
         }
     }
 
@@ -113,6 +149,35 @@ impl Counts {
             self.branch(if refused { "damaged table refused" } else { "damaged table still legal" });
         }
         self.many(&trial.call, outcome.status);
+        self.refused(&trial.call, outcome.status);
+    }
+
+    /// Counts refusals that the need, or the layout before, has to do with.
+    fn refused(&mut self, call: &Call, number: u16) {
+        let table = call.regions.table.content();
+        match (number, call.set_features()) {
+            (status::BAD_TABLE, _) if is_of_the_layout_before(table) => self.branch("table of the layout before refused"),
+            (status::BAD_TABLE, _) => {
+                if let Some(name) = wrong_need(table) {
+                    self.branch(name);
+                }
+            }
+            (status::TOO_EARLY, Some((_, named))) => {
+                let card = read_table(table).expect("the table was not refused");
+                let early = |set: &&Set| set.attributes.identifier == named && is_below_high(set);
+                if let Some(set) = card.sets.iter().find(early) {
+                    self.too_early(set);
+                }
+            }
+            _ => (),
+        }
+    }
+
+    fn too_early(&mut self, set: &Set) {
+        self.branch("too early for a need below high");
+        if set.n_time + 1 == set.need {
+            self.branch("too early for a need below high by 1 ms");
+        }
     }
 
     /// Counts what the number of sets, or the end of page 0Bh, has to do with.
@@ -156,11 +221,28 @@ impl Counts {
             self.window(call, before, after);
         }
         self.notices(call, before, after);
+        self.estimates(call, &before.sets);
         if before.sets.len() == MAX_SETS {
             self.branch("item on 64 sets");
         }
         if let Some(from) = call.identify_from() {
             self.identified(from, &before.sets);
+        }
+    }
+
+    /// Counts a read of page 0Ah that shows estimates, bytes 151:128, of a set in N.
+    fn estimates(&mut self, call: &Call, sets: &[Set]) {
+        let (named, offset, dwords) = match call.set_page_part() {
+            Some(part) => part,
+            None => return,
+        };
+        let shown = sets.iter().find(|set| set.attributes.identifier == named && set.window == Window::N && is_below_high(set));
+        match shown {
+            Some(set) if offset < 152 && offset + 4 * dwords > 128 => self.branch(match set.n_time == set.need {
+                true => "estimates are there at a need below high",
+                false => "estimates wait for a need below high",
+            }),
+            _ => (),
         }
     }
 
@@ -276,9 +358,11 @@ impl Counts {
                 Some((fid, set)) if set == before.attributes.identifier => self.feature(fid, before, after),
                 _ => (),
             },
-            Function::Reads { .. } => self.charged(before, after, Quantity::Reads, "D to N by reads"),
-            Function::Writes { .. } => self.charged(before, after, Quantity::Writes, "D to N by writes"),
-            Function::Excursion { .. } if before.window != after.window => self.branch("D to N by excursion"),
+            Function::Reads { .. } => self.charged(before, after, Quantity::Reads),
+            Function::Writes { .. } => self.charged(before, after, Quantity::Writes),
+            Function::Excursion { .. } if before.window != after.window => {
+                self.left_early(before, after, ["D to N by excursion", "need below high by an excursion"])
+            }
             Function::Excursion { .. } => (),
             Function::Tick { .. } => self.ticked(before, after),
         }
@@ -290,7 +374,7 @@ impl Counts {
         let name = match (before.window, after.window) {
             (Window::Off, Window::N) => "off to N by enable",
             (Window::D, Window::N) if configured => "D to N by enable",
-            (Window::D, Window::N) => "D to N by select",
+            (Window::D, Window::N) => return self.left_early(before, after, ["D to N by select", "need below high by select N"]),
             (Window::N, Window::N) if !configured => "N kept by select",
             (Window::N, Window::N) if before.n_time != 0 => "N afresh by enable",
             (Window::D, Window::Off) => "D to off by disable",
@@ -303,11 +387,53 @@ impl Counts {
         if name == "N to D by select" && after.events != before.events {
             self.branch("warning on entering D");
         }
+        if before.window == Window::N && is_below_high(before) {
+            self.left_need(before, after, configured);
+        }
     }
 
-    fn charged(&mut self, before: &Set, after: &Set, quantity: Quantity, left: &'static str) {
+    /// A successful Set Features of a set in N, which needed less than high.
+    fn left_need(&mut self, before: &Set, after: &Set, configured: bool) {
+        match after.window {
+            Window::D => self.branch("D entered at a need below high"),
+            Window::Off => self.branch("need below high ended by disable"),
+            Window::N if !configured => self.branch("need below high kept by select N"),
+            Window::N if before.need < after.need => self.branch("need raised by enabling again"),
+            Window::N => (),
+        }
+    }
+
+    /// D was left before its time was up: how, and with what need.
+    fn left_early(&mut self, before: &Set, after: &Set, [left, below_high]: [&'static str; 2]) {
+        self.branch(left);
+        let (low, high) = (before.attributes.minimum_low, before.attributes.minimum_high);
+        let s = before.charges[Quantity::Time as usize];
+        if after.need < high {
+            self.branch(below_high);
+        }
+        if s == 0 && low < high {
+            self.branch("need low after no time in D");
+        }
+        if low < after.need && after.need < high {
+            let is_exact = (high - low) * s % before.attributes.time_maximum == 0;
+            self.branch(if is_exact {
+                "need between low and high, an exact quotient"
+            } else {
+                "need between low and high, rounded up"
+            });
+        }
+    }
+
+    fn charged(&mut self, before: &Set, after: &Set, quantity: Quantity) {
         if before.window != after.window {
-            self.branch(left);
+            self.left_early(
+                before,
+                after,
+                match quantity {
+                    Quantity::Reads => ["D to N by reads", "need below high by reads"],
+                    _ => ["D to N by writes", "need below high by writes"],
+                },
+            );
         }
         for (met, name) in [(Quantity::Reads, "reads meet their typical"), (Quantity::Writes, "writes meet their typical")] {
             let charge = after.charges[met as usize];
@@ -318,14 +444,20 @@ impl Counts {
     }
 
     fn ticked(&mut self, before: &Set, after: &Set) {
-        let at_high = after.n_time == after.attributes.minimum_high;
+        let at_need = after.n_time == after.need;
         if before.window == Window::D && after.window == Window::N {
             self.branch("D to N by tick");
             if after.n_time != 0 {
-                self.branch(if at_high { "excess stops at high" } else { "excess becomes N time" });
+                self.branch(if at_need { "excess stops at the need" } else { "excess becomes N time" });
             }
-        } else if at_high && before.n_time != after.n_time {
-            self.branch("N time reaches high");
+            if after.attributes.minimum_low < after.attributes.minimum_high {
+                self.branch("need high by time up");
+            }
+        } else if at_need && before.n_time != after.n_time {
+            self.branch("N time reaches the need");
+            if is_below_high(after) {
+                self.branch("N time reaches a need below high");
+            }
         }
     }
 
@@ -355,6 +487,51 @@ impl Default for Counts {
 fn is_one_body_too_many(bodies: &[u8]) -> bool {
     let is_good = |bodies: &[u8]| model::set_up(&mut [0; table_bytes(MAX_SETS)], bodies) == status::SUCCESS;
     bodies.len() == (MAX_SETS + 1) * BODY_BYTES && is_good(&bodies[BODY_BYTES..]) && is_good(&bodies[..MAX_SETS * BODY_BYTES])
+}
+
+fn is_below_high(set: &Set) -> bool {
+    set.need < set.attributes.minimum_high
+}
+
+/// What is wrong with a table, where that is the need of one row alone, or an N time above it: with another need it would be legal.
+pub fn wrong_need(table: &[u8]) -> Option<&'static str> {
+    let sets = table.get(..HEADER_BYTES).map(|header| word_of(header, header::SETS)).filter(|&sets| sets <= MAX_SETS as u64)?;
+    let rows = table.get(HEADER_BYTES..table_bytes(sets as usize))?;
+    let is_wrong = |row: &[u8]| read_row(row).map_or(true, |set| !set.is_legal());
+    let slot = rows.chunks_exact(ROW_BYTES).position(is_wrong)?;
+    let set = read_row(&rows[ROW_BYTES * slot..])?;
+    let Attributes { minimum_low: low, minimum_high: high, .. } = set.attributes;
+    let in_n = set.window == Window::N;
+    let mut other = table.to_vec();
+    put_word(&mut other[table_bytes(slot)..], field::NEED, if in_n { high } else { 0 });
+    read_table(&other)?;
+    Some(match set.need {
+        _ if !in_n => "need outside N refused",
+        0 => "need 0 in N refused",
+        need if need < low => "need below low refused",
+        need if need > high => "need above high refused",
+        _ => "N time above the need refused, though not above high",
+    })
+}
+
+/// A table with the number of the layout before this one, and rows that would be legal if they had a need.
+fn is_of_the_layout_before(table: &[u8]) -> bool {
+    const OLD_ROW_BYTES: usize = ROW_BYTES - WORD_BYTES;
+    if table.len() < HEADER_BYTES || word_of(table, header::LAYOUT) != LAYOUT_NUMBER - 1 {
+        return false;
+    }
+    let (head, rows) = table.split_at(HEADER_BYTES);
+    let mut new = head.to_vec();
+    put_word(&mut new, header::LAYOUT, LAYOUT_NUMBER);
+    let sets = word_of(head, header::SETS).min(MAX_SETS as u64) as usize;
+    for row in rows.chunks_exact(OLD_ROW_BYTES).take(sets) {
+        let in_n = word_of(row, field::WINDOW) == Window::N as u64;
+        let need = if in_n { word_of(row, field::MINIMUM_HIGH) } else { 0 };
+        new.extend_from_slice(&row[..WORD_BYTES * field::NEED]);
+        new.extend(need.to_le_bytes());
+        new.extend_from_slice(&row[WORD_BYTES * field::NEED..]);
+    }
+    read_table(&new).is_some()
 }
 
 /// A table of 65 rows, of which the first 64 would be legal.

@@ -4,6 +4,7 @@ use crate::random::Random;
 use model::layout::field::*;
 use model::layout::{header, put_word, word_of, BODY_BYTES, HEADER_BYTES, HEADER_WORDS, LAYOUT_NUMBER, MAX_SETS};
 use model::layout::{ROW_BYTES, ROW_WORDS, WORD_BYTES};
+use model::set::Window;
 
 /// The bounds of the fields, and their neighbours.
 const LIMITS: [u64; 24] = [
@@ -35,7 +36,7 @@ const LIMITS: [u64; 24] = [
 
 /// Spoils a legal table in some way.
 pub fn damage_table(random: &Random, table: &mut Vec<u8>) {
-    match random.below(22) {
+    match random.below(24) {
         0 => spoil_header(random, table),
         1 => swap_rows(random, table),
         2 => repeat_row(random, table),
@@ -50,6 +51,7 @@ pub fn damage_table(random: &Random, table: &mut Vec<u8>) {
         8 => add_row(random, table),
         9 => spoil_layout(random, table),
         10..=12 => spoil_notices(random, table),
+        13..=14 => spoil_need(random, table),
         _ => spoil_row_word(random, table),
     }
 }
@@ -61,17 +63,56 @@ fn spoil_header(random: &Random, table: &mut [u8]) {
     put_word(table, header::SETS, number);
 }
 
-/// Another number of the layout; or a header of before, which had the number of sets alone, or that and 65,537 before it.
+/// Another number of the layout; or a table of a layout before.
 fn spoil_layout(random: &Random, table: &mut Vec<u8>) {
-    if random.once_in(4) {
-        put_word(table, header::LAYOUT, random.pick(&[LAYOUT_NUMBER, LAYOUT_NUMBER - 1]));
-        drop(table.drain(WORD_BYTES * header::ON..HEADER_BYTES));
-        drop(table.drain(..WORD_BYTES * random.pick(&[header::LAYOUT, header::SETS])));
-        return;
+    if random.once_in(2) {
+        return age(random, table);
     }
     let sets = word_of(table, header::SETS);
     let near = random.pick(&[LAYOUT_NUMBER - 1, LAYOUT_NUMBER + 1, LAYOUT_NUMBER ^ 1 << random.below(64)]);
     put_word(table, header::LAYOUT, random.pick(&[near, sets, random.pick(&LIMITS), random.uneven()]));
+}
+
+/// Rows without the need, as layout 65,538 had them and those before; and perhaps the header of those, which had the number of sets
+/// alone, or that and 65,537 before it.
+fn age(random: &Random, table: &mut Vec<u8>) {
+    put_word(table, header::LAYOUT, random.pick(&[LAYOUT_NUMBER, LAYOUT_NUMBER - 1, LAYOUT_NUMBER - 1, LAYOUT_NUMBER - 2]));
+    if !random.once_in(4) {
+        *table = without_needs(table);
+    }
+    if random.once_in(2) {
+        drop(table.drain(WORD_BYTES * header::ON..HEADER_BYTES));
+        drop(table.drain(..WORD_BYTES * random.pick(&[header::LAYOUT, header::SETS])));
+    }
+}
+
+/// The table with rows as the layouts before had them.
+pub fn without_needs(table: &[u8]) -> Vec<u8> {
+    let (head, rows) = table.split_at(HEADER_BYTES);
+    let mut older = head.to_vec();
+    for row in rows.chunks_exact(ROW_BYTES) {
+        older.extend_from_slice(&row[..WORD_BYTES * NEED]);
+        older.extend_from_slice(&row[WORD_BYTES * (NEED + 1)..]);
+    }
+    older
+}
+
+/// Puts another need into a row: 0, about low, about high, or below the N time; outside N mostly one that would be legal in it.
+/// Sometimes the N time is put about it too.
+fn spoil_need(random: &Random, table: &mut [u8]) {
+    let row = any_row(random, table);
+    let (low, high, n_time) = (word_of(row, MINIMUM_LOW), word_of(row, MINIMUM_HIGH), word_of(row, N_TIME));
+    let between = random.between(low, high);
+    let need = random.pick(&[0, low - 1, low, high, high + 1, n_time.saturating_sub(1), between, between]);
+    put_word(row, NEED, need);
+    if word_of(row, WINDOW) == Window::N as u64 && random.once_in(3) {
+        put_word(row, N_TIME, random.pick(&[need, need + 1, high]));
+    }
+}
+
+fn any_row<'a>(random: &Random, table: &'a mut [u8]) -> &'a mut [u8] {
+    let start = HEADER_BYTES + ROW_BYTES * random.place(table.len() / ROW_BYTES);
+    &mut table[start..start + ROW_BYTES]
 }
 
 /// Puts other words into the places of notices and requests; one of both can be enough to make a flag that could be served at once.
@@ -110,7 +151,8 @@ fn bound(row: &[u8], field: usize) -> u64 {
         UNALLOCATED => word_of(row, TOTAL),
         UNALLOCATED_UPPER => word_of(row, TOTAL_UPPER),
         TIME_MAXIMUM | MINIMUM_HIGH => 86_400_000,
-        MINIMUM_LOW | N_TIME => word_of(row, MINIMUM_HIGH),
+        MINIMUM_LOW | NEED => word_of(row, MINIMUM_HIGH),
+        N_TIME => word_of(row, NEED),
         READS => word_of(row, READS_TYPICAL),
         WRITES => word_of(row, WRITES_TYPICAL),
         TIME => word_of(row, TIME_MAXIMUM),
@@ -123,8 +165,7 @@ fn bound(row: &[u8], field: usize) -> u64 {
 
 /// Puts another word into one place of one row.
 fn spoil_row_word(random: &Random, table: &mut [u8]) {
-    let start = HEADER_BYTES + ROW_BYTES * random.place(table.len() / ROW_BYTES);
-    let row = &mut table[start..start + ROW_BYTES];
+    let row = any_row(random, table);
     let field = random.place(ROW_WORDS);
     let old = word_of(row, field);
     let bound = bound(row, field);

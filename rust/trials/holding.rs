@@ -6,7 +6,8 @@ use crate::damage::{damage_bodies, damage_table};
 use crate::entries::MODEL;
 use crate::random::Random;
 use crate::samples;
-use model::layout::{read_table, table_bytes, Card, BODY_BYTES};
+use model::layout::{read_table, table_bytes, write_table, Card, BODY_BYTES};
+use model::set::Window;
 use model::status;
 
 /// How many calls are handed over at once.
@@ -90,6 +91,19 @@ impl World {
         if !is_set_up || self.random.once_in(8) {
             self.table = left[..table_bytes(card.sets.len())].to_vec();
             self.card = card;
+        }
+        if self.random.once_in(12) {
+            self.vary_need();
+        }
+    }
+
+    /// Any need from low to high is legal, whatever the window before: so a set in N is now and then given another.
+    fn vary_need(&mut self) {
+        let place = self.random.place(self.card.sets.len());
+        let set = &mut self.card.sets[place];
+        if set.window == Window::N {
+            samples::put_any_need(&self.random, set);
+            write_table(&mut self.table, &self.card);
         }
     }
 }

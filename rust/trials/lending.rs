@@ -1,12 +1,13 @@
 //! Random calls of the two functions over references: set-up from a list of three sets or of 64, and events of one lent record.
 
 use crate::calls::{Call, Function, Outcome, Takes};
+use crate::counts::wrong_need;
 use crate::damage::{damage_bodies, damage_table};
 use crate::entries::MODEL;
 use crate::holding::first_difference;
 use crate::random::Random;
 use crate::samples::{self, Item};
-use model::layout::field::{IDENTIFIER, LISTED, WINDOW};
+use model::layout::field::{IDENTIFIER, LISTED, MINIMUM_HIGH, NEED, WINDOW};
 use model::layout::{read_body, read_row, read_table, table_bytes, word_of, write_table, BODY_BYTES, HEADER_BYTES, MAX_SETS};
 use model::notices::Notices;
 use model::set::{Attributes, Set, EVENT_MASK};
@@ -16,7 +17,7 @@ use std::collections::BTreeMap;
 const BATCH: u64 = 100;
 
 /// What must be met, each in one call of a thousand.
-const MET: [&str; 11] = [
+const MET: [&str; 13] = [
     "set-up of 3 sets 0000",
     "set-up of 3 sets 07C2",
     "set-up of 3 sets 07C4",
@@ -28,6 +29,8 @@ const MET: [&str; 11] = [
     "event that changes the record",
     "event that lists its set",
     "event that drives its set out of D",
+    "event that leaves a need below high",
+    "event 07C3 for its need alone",
 ];
 
 /// Gives so many calls to one that takes them and to the model. Answers whether both agreed and enough was met.
@@ -121,7 +124,8 @@ fn has_known_bits(set: &Set) -> bool {
 }
 
 fn has_small_counts(set: &Set) -> bool {
-    has_small_limits(&set.attributes) && set.charges.iter().chain([&set.n_time]).all(|&count| count <= u64::from(u32::MAX))
+    has_small_limits(&set.attributes)
+        && set.charges.iter().chain([&set.n_time, &set.need]).all(|&count| count <= u64::from(u32::MAX))
 }
 
 fn has_small_limits(of: &Attributes) -> bool {
@@ -170,9 +174,14 @@ fn met_by(call: &Call, outcome: &Outcome) -> Vec<&'static str> {
                 ("event that changes the record", before != after),
                 ("event that lists its set", word(before, LISTED) < word(after, LISTED)),
                 ("event that drives its set out of D", word(before, WINDOW) != word(after, WINDOW)),
+                (
+                    "event that leaves a need below high",
+                    word(before, NEED) < word(after, NEED) && word(after, NEED) < word(after, MINIMUM_HIGH),
+                ),
             ];
             effects.iter().filter(|(_, met)| *met).map(|&(name, _)| name).collect()
         }
+        _ if wrong_need(before).is_some() => vec!["event 07C3", "event 07C3 for its need alone"],
         _ => vec!["event 07C3"],
     }
 }

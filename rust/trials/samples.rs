@@ -75,6 +75,7 @@ pub fn body(random: &Random, identifier: u16) -> Vec<u8> {
         _ => total >> random.below(128),
     };
     let high = time(random, 12);
+    let low = random.between(1, high);
     let mut body = Vec::with_capacity(BODY_BYTES);
     body.extend(identifier.to_le_bytes());
     body.extend((random.between(1, 65_535) as u16).to_le_bytes());
@@ -82,7 +83,7 @@ pub fn body(random: &Random, identifier: u16) -> Vec<u8> {
     body.extend((random.uneven() as u32).to_le_bytes());
     body.extend(total.to_le_bytes());
     body.extend(unallocated.to_le_bytes());
-    for number in [typical(random), typical(random), time(random, 60), high, random.between(1, high)] {
+    for number in [typical(random), typical(random), maximum(random, high - low), high, low] {
         body.extend(number.to_le_bytes());
     }
     body
@@ -105,6 +106,21 @@ fn time(random: &Random, common: u64) -> u64 {
         2 => 1,
         _ => random.between(1, common),
     }
+}
+
+/// A time maximum. Often it is some times the way from low to high, so that the need of many a short window is a whole number.
+fn maximum(random: &Random, way: u64) -> u64 {
+    match random.below(3) {
+        0 => (way * random.between(1, 5)).clamp(1, DAY),
+        _ => time(random, 60),
+    }
+}
+
+/// Gives a set in N any need that is legal, and any N time: often an edge, and also a need that no window of this set makes.
+pub fn put_any_need(random: &Random, set: &mut Set) {
+    let (low, high) = (set.attributes.minimum_low, set.attributes.minimum_high);
+    set.need = random.pick(&[low, high, random.between(low, high), random.between(low, high)]);
+    set.n_time = random.pick(&[0, set.need, set.need - 1, random.between(0, set.need)]);
 }
 
 /// An item for a card.
@@ -132,6 +148,7 @@ pub fn notice_item(random: &Random, card: &Card) -> Item {
         (0..=6, _) if !*on => set_notices(random, true),
         (0..=2, _) if waiting.is_empty() => request(random),
         (0..=6, _) => return listing_item(random, card),
+        (7..=12, _) if card.notices.can_send() && could_list_several(card) => return listing_item(random, card),
         (7..=11, Some(set)) if *flag => clearing_read(random, set),
         (7..=12, _) => set_notices(random, random.once_in(2)),
         (13, _) => get_notices(random),
@@ -145,11 +162,16 @@ pub fn notice_item(random: &Random, card: &Card) -> Item {
 
 /// What may list a set: a tick that is time up for each of several, or a select D.
 fn listing_item(random: &Random, card: &Card) -> Item {
-    let could_list = |set: &&Set| set.window == Window::D && !set.listed && set.configuration.enev & EXCEEDED != 0;
-    if card.sets.iter().filter(could_list).count() > 1 {
+    if could_list_several(card) {
         return Item::Tick { milliseconds: DAY as u32 };
     }
     Item::Command { command: select_ready(random, &card.sets).command(random), data: Vec::new() }
+}
+
+/// Whether time up would list several sets.
+fn could_list_several(card: &Card) -> bool {
+    let could_list = |set: &&Set| set.window == Window::D && !set.listed && set.configuration.enev & EXCEEDED != 0;
+    card.sets.iter().filter(could_list).count() > 1
 }
 
 /// An item that in most cases changes this set: it names it, or is the tick that it waits for.
@@ -234,7 +256,7 @@ fn event_count(random: &Random, set: &Set, quantity: Quantity) -> u16 {
 }
 
 fn milliseconds(random: &Random, set: &Set) -> u32 {
-    let recovery = set.attributes.minimum_high - set.n_time.min(set.attributes.minimum_high);
+    let recovery = if set.window == Window::N { set.need - set.n_time } else { set.attributes.minimum_high };
     let number = match random.below(24) {
         0..=8 => random.below(4),
         9..=13 => near_an_edge(random, set, Quantity::Time),
@@ -454,8 +476,8 @@ pub fn start_of_asking(random: &Random, sets: &[Set]) -> u16 {
     let near = other_set(random, set);
     let after = |entries: usize| sets.get(entries - 1).map_or(0, |last| last.attributes.identifier.saturating_add(1));
     let left = sets.len().checked_sub(IDENTIFY_ENTRIES).map_or(0, |slot| sets[slot].attributes.identifier);
-    let again = random.pick(&[after(IDENTIFY_ENTRIES), after(2 * IDENTIFY_ENTRIES), left]);
-    random.pick(&[0, 0, 1, set.attributes.identifier, near, again, random.word() as u16])
+    let again = random.pick(&[after(IDENTIFY_ENTRIES), after(2 * IDENTIFY_ENTRIES), left, left]);
+    random.pick(&[0, 0, 1, set.attributes.identifier, near, again, again, random.word() as u16])
 }
 
 /// An Identify that is carried out, of the sets from this identifier on.
