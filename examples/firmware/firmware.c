@@ -245,7 +245,7 @@ static void wait_for_events(void)
     tell("send event request 22", request_event(22));
 }
 
-/* A set that was just enabled has to recover before it can promise anything. */
+/* A set that was just enabled has to recover for its minimum high before it can promise anything. */
 static void enter_window(void)
 {
     tell("enable set 7", enable(SET_7, CARD_EVENT_READS | CARD_EVENT_EXCEEDED, 10));
@@ -272,9 +272,18 @@ static void use_up(void)
     tell("1 read of set 7", reads(SET_7, 1));
     print_listed();
     print_set(SET_7);
+}
+
+/* A window that was left early is paid for by what was spent of it: 300 of 1000 ms, so 5 ms and 300 thousandths of the 15 from there
+ * to 20, which is 9.5, rounded up 10. Until then the estimates are 0. */
+static void recover(void)
+{
     tell("select its deterministic window", select_deterministic(SET_7));
-    tell("20 ms go by", tick(20));
+    tell("9 ms go by", tick(9));
+    tell("select its deterministic window", select_deterministic(SET_7));
+    tell("1 ms goes by", tick(1));
     print_set(SET_7);
+    tell("select its deterministic window", select_deterministic(SET_7));
 }
 
 static void meet_the_others(void)
@@ -292,6 +301,7 @@ int main(void)
     enter_window();
     be_warned();
     use_up();
+    recover();
     meet_the_others();
     return 0;
 }
