@@ -49,7 +49,7 @@ const BRANCHES: [&str; 26] = [
 ];
 
 /// What is met of the need, of sets whose low is below their high.
-const NEEDS: [&str; 23] = [
+const NEEDS: [&str; 24] = [
     "need below high by select N",
     "need below high by an excursion",
     "need below high by reads",
@@ -58,6 +58,7 @@ const NEEDS: [&str; 23] = [
     "need low after no time in D",
     "need between low and high, rounded up",
     "need between low and high, an exact quotient",
+    "need reckoned of a product of more than 32 bits",
     "need raised by enabling again",
     "need below high kept by select N",
     "need below high ended by disable",
@@ -413,6 +414,9 @@ impl Counts {
         }
         if s == 0 && low < high {
             self.branch("need low after no time in D");
+        }
+        if (high - low) * s > u64::from(u32::MAX) {
+            self.branch("need reckoned of a product of more than 32 bits");
         }
         if low < after.need && after.need < high {
             let is_exact = (high - low) * s % before.attributes.time_maximum == 0;

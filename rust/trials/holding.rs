@@ -7,7 +7,6 @@ use crate::entries::MODEL;
 use crate::random::Random;
 use crate::samples;
 use model::layout::{read_table, table_bytes, write_table, Card, BODY_BYTES};
-use model::set::Window;
 use model::status;
 
 /// How many calls are handed over at once.
@@ -93,18 +92,16 @@ impl World {
             self.card = card;
         }
         if self.random.once_in(12) {
-            self.vary_need();
+            self.vary_times();
         }
     }
 
-    /// Any need from low to high is legal, whatever the window before: so a set in N is now and then given another.
-    fn vary_need(&mut self) {
+    /// Any need from low to high is legal, whatever the window before, and any time below its bound: so a set is now and then given
+    /// others, since items alone seldom come to many of them.
+    fn vary_times(&mut self) {
         let place = self.random.place(self.card.sets.len());
-        let set = &mut self.card.sets[place];
-        if set.window == Window::N {
-            samples::put_any_need(&self.random, set);
-            write_table(&mut self.table, &self.card);
-        }
+        samples::put_any_times(&self.random, &mut self.card.sets[place]);
+        write_table(&mut self.table, &self.card);
     }
 }
 

@@ -74,7 +74,7 @@ pub fn body(random: &Random, identifier: u16) -> Vec<u8> {
         1 => 0,
         _ => total >> random.below(128),
     };
-    let high = time(random, 12);
+    let high = if random.once_in(12) { random.between(DAY / 2, DAY) } else { time(random, 12) };
     let low = random.between(1, high);
     let mut body = Vec::with_capacity(BODY_BYTES);
     body.extend(identifier.to_le_bytes());
@@ -108,19 +108,30 @@ fn time(random: &Random, common: u64) -> u64 {
     }
 }
 
-/// A time maximum. Often it is some times the way from low to high, so that the need of many a short window is a whole number.
+/// A time maximum. Often it is some times the way from low to high, so that the need of many a short window is a whole number; and
+/// mostly long where that way is, so that the two are multiplied to more than 32 bits.
 fn maximum(random: &Random, way: u64) -> u64 {
     match random.below(3) {
         0 => (way * random.between(1, 5)).clamp(1, DAY),
+        _ if way > DAY / 8 => random.between(DAY / 8, DAY),
         _ => time(random, 60),
     }
 }
 
-/// Gives a set in N any need that is legal, and any N time: often an edge, and also a need that no window of this set makes.
-pub fn put_any_need(random: &Random, set: &mut Set) {
-    let (low, high) = (set.attributes.minimum_low, set.attributes.minimum_high);
-    set.need = random.pick(&[low, high, random.between(low, high), random.between(low, high)]);
-    set.n_time = random.pick(&[0, set.need, set.need - 1, random.between(0, set.need)]);
+/// Gives a set any times that are legal in its window, often an edge: in D a time, and in N a need and a time. The need may be one
+/// that no window of this set makes.
+pub fn put_any_times(random: &Random, set: &mut Set) {
+    let (low, high, maximum) = (set.attributes.minimum_low, set.attributes.minimum_high, set.attributes.time_maximum);
+    match set.window {
+        Window::Off => (),
+        Window::D => {
+            set.charges[Quantity::Time as usize] = random.pick(&[0, maximum - 1, random.below(maximum), random.below(maximum)])
+        }
+        Window::N => {
+            set.need = random.pick(&[low, high, random.between(low, high), random.between(low, high)]);
+            set.n_time = random.pick(&[0, set.need, set.need - 1, random.between(0, set.need)]);
+        }
+    }
 }
 
 /// An item for a card.
