@@ -48,7 +48,7 @@ const BRANCHES: [&str; 26] = [
     "damaged table still legal",
 ];
 
-/// What is met of the need, of sets whose low is below their high.
+/// What is met of the need, mostly of one below high: where low and high are the same, little can go wrong.
 const NEEDS: [&str; 24] = [
     "need below high by select N",
     "need below high by an excursion",
