@@ -60,7 +60,7 @@ part-latency c r from n page before after x ef en ep h =
 
 pub fine-on : (k : Kind) (c : Command) (given room : ℕ) (r : Record) (s : ℕ) → k ≡ kindOf c → s ≡ statusOn k c given room r → s ≡ 0 → Fine k c given room
 unfolding statusOn
-fine-on k c given room r s e q z = fine k c given room (r .attributes) (r .state) e (sym q ∙ z)
+fine-on k c given room r s e q z = fine k c given room (r .state) e (sym q ∙ z)
 
 module _ (ws : List ℕ) (slot : ℕ) (k : Kind) (c : Command) (given before : List ℕ) (x : Reply) (rec : Record) (s : ℕ)
     (er : rec ≡ recordOf (row ws slot)) (es : s ≡ statusOn k c (length given) (length before) rec) where

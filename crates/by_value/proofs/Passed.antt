@@ -6,7 +6,6 @@ use Prim.Native.Nat.{ℕ, _%_, _≤_}
 use borrow.Author.Tests.{ltb-false}
 use lib.Dec.{ltb, eqb}
 use Rattle.octets.proofs.JoinedTests.{left-false, right-false, second-false}
-use Rattle.record.specs.declared.Attributes.{Attributes}
 use Rattle.record.specs.declared.State.{State}
 use Rattle.replies.specs.Status.{firstOf}
 use Rattle.replies.proofs.Rows.{passed}
@@ -42,11 +41,11 @@ fine-by k c given room e p h =
 
 -- of a command on a set
 pub fine :
-    (k : Kind) (c : Command) (given room : ℕ) (a : Attributes) (s : State) → k ≡ kindOf c
-    → firstOf (earlyLines c ++ lateLines k c given room a s) ≡ 0 → Fine k c given room
-fine k c given room a s e z =
-    let n = early-passed c (lateLines k c given room a s) refl z in
-    fine-by k c given room e (n .part) (late-passed k c given room a s (n .later) .short)
+    (k : Kind) (c : Command) (given room : ℕ) (s : State) → k ≡ kindOf c
+    → firstOf (earlyLines c ++ lateLines k c given room s) ≡ 0 → Fine k c given room
+fine k c given room s e z =
+    let n = early-passed c (lateLines k c given room s) refl z in
+    fine-by k c given room e (n .part) (late-passed k c given room s (n .later) .short)
 
 -- of a command that names no set
 pub view-fine :

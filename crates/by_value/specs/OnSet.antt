@@ -22,7 +22,7 @@ use Rattle.steps.specs.Commanded.{doing, answerOf}
 
 -- the status of the command on this set
 unfoldable pub statusOn : Kind → Command → ℕ → ℕ → Record → ℕ
-statusOn k c given room r = firstOf (earlyLines c ++ lateLines k c given room (r .attributes) (r .state))
+statusOn k c given room r = firstOf (earlyLines c ++ lateLines k c given room (r .state))
 
 -- the set's record after it
 abbrev pub afterOn : Kind → Command → List ℕ → Record → Record

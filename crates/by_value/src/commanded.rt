@@ -51,9 +51,8 @@ pub fn status_on(early: u16, k: Kind, c: Command, given: usize, room: usize, r: 
     requires { ⌜ early ≡ firstOf (earlyLines c) ⌝ }
     ensures { λ x. ⌜ x ≡ statusOn k c given room r ⌝ }
 {
-    let a = r.attributes;
     let s = r.state;
-    found_status(early, k, c, given, room, a, s)
+    found_status(early, k, c, given, room, s)
 }
 
 // ---- the record after each command that changes one

@@ -4,7 +4,6 @@ use mathlib.Core.Bool.{true, false}
 use mathlib.Core.List.{List, [], _∷_, _++_}
 use Prim.Native.Nat.{ℕ}
 use native.Mathlib.Omega.{arith}
-use Rattle.record.specs.declared.Attributes.{Attributes}
 use Rattle.record.specs.declared.State.{State}
 use Rattle.replies.specs.Status.{Line, line, firstOf, numbered}
 use Rattle.replies.proofs.Rows.{passed}
@@ -34,14 +33,14 @@ early-passed c more n z =
       later = rw (p .0, p .1 .0, p .1 .1 .0, p .1 .1 .1 .0, p .1 .1 .1 .1 .0, p .1 .1 .1 .1 .1 .0) at z;
     }
 
-pub record Late (k : Kind) (c : Command) (given room : ℕ) (a : Attributes) (s : State) : Type 0 where
+pub record Late (k : Kind) (c : Command) (given room : ℕ) (s : State) : Type 0 where
   pub window : windowWrong k c s ≡ false
   pub short : shortLine k c given room .holds ≡ false
-  pub early : selectsEarly k c a s ≡ false
+  pub early : selectsEarly k c s ≡ false
 
-pub late-passed : (k : Kind) (c : Command) (given room : ℕ) (a : Attributes) (s : State) → firstOf (lateLines k c given room a s) ≡ 0 → Late k c given room a s
-late-passed k c given room a s z =
-    let p = passed (lateLines k c given room a s) refl z in
+pub late-passed : (k : Kind) (c : Command) (given room : ℕ) (s : State) → firstOf (lateLines k c given room s) ≡ 0 → Late k c given room s
+late-passed k c given room s z =
+    let p = passed (lateLines k c given room s) refl z in
     record { window = p .0; short = p .1 .0; early = p .1 .1 .0 }
 
 -- a row below them that holds

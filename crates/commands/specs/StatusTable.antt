@@ -7,7 +7,6 @@ use lib.Dec.{ltb, leb, eqb}
 use Rattle.octets.specs.Choice.{if_then_else_}
 use Rattle.octets.specs.Lists.{anyOf}
 use Rattle.desk.specs.Desk.{requestsMaximum}
-use Rattle.record.specs.declared.Attributes.{Attributes}
 use Rattle.record.specs.declared.State.{State}
 use Rattle.record.specs.declared.Window.the-variants.{D, N}
 use Rattle.record.specs.Windows.{windowNo}
@@ -97,17 +96,17 @@ windowWrong k c s = isOff k c s || noWindow k c
 abbrev pub shortLine : Kind → Command → ℕ → ℕ → Line
 shortLine k c given room = line (ltb given (needsIn k) || ltb room (needsOut k c)) numbers.tooShort
 
--- "select D from N too early"
-abbrev pub selectsEarly : Kind → Command → Attributes → State → Bool
-selectsEarly k c a s = shapeOf k .window && isEarly (windowCause c) s
+-- "select D from N too early"; 02: "07C1h and cases 8 and 9 now speak of the need": `isEarly`
+abbrev pub selectsEarly : Kind → Command → State → Bool
+selectsEarly k c s = shapeOf k .window && isEarly (windowCause c) s
 
 -- 02: "Up to four requests wait ..; a fifth gets 0105h." So many wait already.
 abbrev pub requestLine : Kind → ℕ → Line
 requestLine k waiting = line (shapeOf k .queues && leb requestsMaximum waiting) numbers.tooManyRequests
 
-abbrev pub lateLines : Kind → Command → ℕ → ℕ → Attributes → State → List Line
-lateLines k c given room a s =
+abbrev pub lateLines : Kind → Command → ℕ → ℕ → State → List Line
+lateLines k c given room s =
     line (windowWrong k c s) numbers.invalidField
     ∷ shortLine k c given room
-    ∷ line (selectsEarly k c a s) numbers.tooEarly
+    ∷ line (selectsEarly k c s) numbers.tooEarly
     ∷ []

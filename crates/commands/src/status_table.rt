@@ -31,7 +31,6 @@ use crate::window_cause;
 use crate::window_value;
 use desk::REQUESTS;
 use octets::casts::from_size;
-use record::Attributes;
 use record::State;
 use replies::numbers::BAD_COMMAND_LENGTH;
 use replies::numbers::INVALID_FIELD;
@@ -147,8 +146,8 @@ fn too_short(k: Kind, c: Command, given: usize, room: usize) -> bool
 }
 
 // Only of a command that selects a window is the time looked at.
-fn selects_early(k: Kind, c: Command, a: Attributes, s: State) -> bool
-    ensures { λ r. ⌜ r ≡ selectsEarly k c a s ⌝ }
+fn selects_early(k: Kind, c: Command, s: State) -> bool
+    ensures { λ r. ⌜ r ≡ selectsEarly k c s ⌝ }
 {
     let shape = shape_of(k);
     if shape.window {
@@ -158,8 +157,8 @@ fn selects_early(k: Kind, c: Command, a: Attributes, s: State) -> bool
 }
 
 // The rows after it.
-fn late_status(k: Kind, c: Command, given: usize, room: usize, a: Attributes, s: State) -> u16
-    ensures { λ r. ⌜ r ≡ firstOf (lateLines k c given room a s) ⌝ }
+fn late_status(k: Kind, c: Command, given: usize, room: usize, s: State) -> u16
+    ensures { λ r. ⌜ r ≡ firstOf (lateLines k c given room s) ⌝ }
 {
     if window_wrong(k, c, s) {
         return INVALID_FIELD;
@@ -167,7 +166,7 @@ fn late_status(k: Kind, c: Command, given: usize, room: usize, a: Attributes, s:
     if too_short(k, c, given, room) {
         return TOO_SHORT;
     }
-    if selects_early(k, c, a, s) {
+    if selects_early(k, c, s) {
         return TOO_EARLY;
     }
     SUCCESS
@@ -189,19 +188,11 @@ pub fn unknown_status(early: u16, c: Command) -> u16
     above(early, INVALID_FIELD)
 }
 
-pub fn found_status(
-    early: u16,
-    k: Kind,
-    c: Command,
-    given: usize,
-    room: usize,
-    a: Attributes,
-    s: State,
-) -> u16
+pub fn found_status(early: u16, k: Kind, c: Command, given: usize, room: usize, s: State) -> u16
     requires { ⌜ early ≡ firstOf (earlyLines c) ⌝ }
-    ensures { λ r. ⌜ r ≡ firstOf (earlyLines c ++ lateLines k c given room a s) ⌝ }
+    ensures { λ r. ⌜ r ≡ firstOf (earlyLines c ++ lateLines k c given room s) ⌝ }
 {
-    above(early, late_status(k, c, given, room, a, s))
+    above(early, late_status(k, c, given, room, s))
 }
 
 fn short_status(short: bool) -> u16

@@ -208,7 +208,7 @@ below k c given room waiting set =
     line (isNamed k && not (isThere set)) invalidField
     ∷ line (ofSet (λ a s. windowWrong k c s) set) invalidField
     ∷ shortLine k c given room
-    ∷ line (ofSet (selectsEarly k c) set) tooEarly
+    ∷ line (ofSet (λ a s. selectsEarly k c s) set) tooEarly
     ∷ requestLine k waiting
     ∷ []
 
@@ -231,7 +231,7 @@ named-below :
 unfolding below
 named-below k c given room waiting h none = same-below c (line true unknownNumber ∷ []) (below k c (length given) room waiting none) (rw h)
 named-below k c given room waiting h (some r) =
-    same-below c (lateLines k c (length given) room (r .attributes) (r .state)) (below k c (length given) room waiting (some r)) (rw (and-false (isNamed k), no-queue k h))
+    same-below c (lateLines k c (length given) room (r .state)) (below k c (length given) room waiting (some r)) (rw (and-false (isNamed k), no-queue k h))
 
 -- the rows that look at the window look at no command that names no set
 no-window : (k : Kind) → isNamed k ≡ false → (shapeOf k .on ≡ false) × (shapeOf k .window ≡ false)
@@ -246,7 +246,7 @@ no-window ReadAggregate h = (refl, refl)
 no-window EventRequest h = (refl, refl)
 no-window Identify h = (refl, refl)
 
-no-row : (k : Kind) (c : Command) (set : Option Record) → isNamed k ≡ false → (ofSet (λ a s. windowWrong k c s) set ≡ false) × (ofSet (selectsEarly k c) set ≡ false)
+no-row : (k : Kind) (c : Command) (set : Option Record) → isNamed k ≡ false → (ofSet (λ a s. windowWrong k c s) set ≡ false) × (ofSet (λ a s. selectsEarly k c s) set ≡ false)
 no-row k c none h = (refl, refl)
 no-row k c (some r) h = let n = no-window k h in (rw (n .0, n .1), rw (n .1))
 

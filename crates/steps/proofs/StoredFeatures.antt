@@ -267,8 +267,8 @@ module _ (i : Item) (id : ℕ) (o : One) (m : meaning i ≡ The id o) (c : Card)
 whole-data :
     (c : Command) (given : List ℕ) (room : ℕ) (a : Attributes) (s : State) → refusalAt (named SetConfig c given room) a s ≡ 0 → featureSize ≤ length given
 whole-data c given room a s h =
-    let p = early-passed c (lateLines SetConfig c (length given) room a s) refl h in
-    let o = late-passed SetConfig c (length given) room a s (p .later) .short in
+    let p = early-passed c (lateLines SetConfig c (length given) room s) refl h in
+    let o = late-passed SetConfig c (length given) room s (p .later) .short in
     ltb-false (length given) featureSize (left-false (ltb (length given) featureSize) (ltb room (needsOut SetConfig c)) o)
 
 pub config-stored : ConfigStored
@@ -323,8 +323,8 @@ asked-window :
     (c : Command) (given : List ℕ) (room : ℕ) (a : Attributes) (s : State) → refusalAt (named SetWindow c given room) a s ≡ 0
     → windowNo (rules.selecting (windowCause c) a s .state .window) ≡ windowValue c
 asked-window c given room a s h =
-    let p = early-passed c (lateLines SetWindow c (length given) room a s) refl h in
-    let o = late-passed SetWindow c (length given) room a s (p .later) .window in
+    let p = early-passed c (lateLines SetWindow c (length given) room s) refl h in
+    let o = late-passed SetWindow c (length given) room s (p .later) .window in
     selected-window (eqb (windowValue c) 1) a s (left-false (isOff SetWindow c s) (noWindow SetWindow c) o)
     ∙ one-or-two (windowValue c) (eqb (windowValue c) 1) (eqb (windowValue c) 2) refl refl (right-false (isOff SetWindow c s) (noWindow SetWindow c) o)
 

@@ -151,7 +151,7 @@ named k c given room =
     record {
       early = earlyLines c;
       unknown = unknownNumber;
-      late = lateLines k c (length given) room;
+      late = λ a s. lateLines k c (length given) room s;
       rule = doing k .rule c given;
       done = answerOf k c;
     }

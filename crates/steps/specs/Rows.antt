@@ -59,7 +59,7 @@ commandRows ws bytes given room =
     ∷ line (isNamed k && not (isThere set)) unknownNumber
     ∷ line (ofSet (λ a s. windowWrong k c s) set) invalidField
     ∷ shortLine k c (length given) room
-    ∷ line (ofSet (selectsEarly k c) set) tooEarly
+    ∷ line (ofSet (λ a s. selectsEarly k c s) set) tooEarly
     ∷ requestLine k (length (deskAt ws .waiting))
     ∷ []
 

@@ -12,4 +12,4 @@ found-status-spec =
     (λ c.
     let s = c .before .before in
     let a = s .args in
-    stacked (a .c) (lateLines (a .k) (a .c) (a .given) (a .room) (a .a) (a .s)) _ _ _ (s .pre) (c .before .late-status .ensures) (c .above .ensures)))
+    stacked (a .c) (lateLines (a .k) (a .c) (a .given) (a .room) (a .s)) _ _ _ (s .pre) (c .before .late-status .ensures) (c .above .ensures)))
