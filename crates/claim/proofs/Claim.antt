@@ -1,7 +1,7 @@
 -- The proof of the claim: each statement by its proof, under its name.
 use Rattle.desk.proofs.LegalDesks as desks
 use Rattle.rules.proofs.Needs.{need-within, need-rises, need-ends, need-rounded}
-use Rattle.rules.proofs.Leads.{leads, starts-anew, held-stays, carries-none, enabling-needs-high, leaving-needs, time-up-needs-high, need-stays}
+use Rattle.rules.proofs.Leads.{leads, starts-anew, held-stays, carries-none, enabling-needs-high, leaving-needs, time-up-needs-high, time-up-recovers, need-stays}
 use Rattle.rules.proofs.Warnings.{zero-never-warns, above-warns-on-entry, own-warning}
 use Rattle.rules.proofs.OffRefuses.{off-refuses}
 use Rattle.table.proofs.LegalWords.{legal-words}
@@ -64,6 +64,7 @@ claim =
       enabling-needs-high = enabling-needs-high;
       leaving-needs = leaving-needs;
       time-up-needs-high = time-up-needs-high;
+      time-up-recovers = time-up-recovers;
       need-stays = need-stays;
       zero-never-warns = zero-never-warns;
       above-warns-on-entry = above-warns-on-entry;

@@ -11,7 +11,7 @@ use Rattle.table.specs.LegalWords as legal
 use Rattle.pages.specs.Features as features
 use Rattle.pages.specs.Aggregate as listing
 use Rattle.steps.specs.Order as rows
-use Rattle.steps.specs.Edges as twelve
+use Rattle.steps.specs.Edges as table
 use Rattle.steps.specs.PastTheTable as past
 use Rattle.steps.specs.Firm as firm
 use Rattle.steps.specs.IdleBuilds as idle
@@ -55,7 +55,7 @@ pub record Claim : Type 0 where
   pub starts-anew : door.StartsAnew
   pub held-stays : door.HeldStays
   pub carries-none : rules.CarriesNone
-  -- 02, "Short windows pay too much": the need after a window, and who has which
+  -- 02, "Short windows pay too much": the need after a window, and that of each way into N
   pub need-within : need.NeedWithin
   pub need-rises : need.NeedRises
   pub need-ends : need.NeedEnds
@@ -63,6 +63,7 @@ pub record Claim : Type 0 where
   pub enabling-needs-high : door.EnablingNeedsHigh
   pub leaving-needs : door.LeavingNeeds
   pub time-up-needs-high : door.TimeUpNeedsHigh
+  pub time-up-recovers : rules.TimeUpRecovers
   pub need-stays : rules.NeedStays
   -- warnings
   pub zero-never-warns : rules.ZeroNeverWarns
@@ -142,7 +143,7 @@ pub record Claim : Type 0 where
   pub demand-at-c : held-by-c.DemandAtC
   pub listing-never-lost : held-by-c.ListingNeverLost
   -- ==== "Edges to show", and rows "checked in this order"
-  pub edges : twelve.Edges
+  pub edges : table.Edges
   pub order : rows.Order
   -- ==== "Any two outcomes allowed by one statement are shown to coincide"
   pub one-set-up : firm.OneSetUp

@@ -1,6 +1,6 @@
 // Estimates, warnings, and the one place that writes events and the listed mark.
 ghost use mathlib.Core.Path.{_≡_};
-ghost use Prim.Native.Nat.{_<_, _≤_};
+ghost use Prim.Native.Nat.{_<_};
 ghost use Rattle.record.specs.Event.{estimate, bitsOf, eventsIn, eventsOf, noEvents, someEvent, warning, warns, startsBelow, enteringD, andExceeded, anExcursion, anyEnabled, joined, settled, isSilent, newlyListed};
 use crate::Attributes;
 use crate::Config;

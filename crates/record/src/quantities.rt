@@ -3,7 +3,6 @@ ghost use mathlib.Core.Path.{_≡_};
 ghost use Prim.Native.Nat.{_+_, _-_, min};
 ghost use Rattle.record.specs.Quantities.{limit, spentOf, threshold, enables, spendsOf, spending, needMet};
 use crate::Attributes;
-use crate::Config;
 use crate::Events;
 use crate::Quantity;
 use crate::Recovery;

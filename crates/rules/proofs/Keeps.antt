@@ -1,12 +1,12 @@
 -- Every rule keeps a legal set legal.
 use mathlib.Core.Path.{_≡_, refl, ap}
 use mathlib.Core.Bool.{Bool, true, false, _&&_}
-use Prim.Native.Nat.{ℕ, _+_, _-_, _≤_, min}
+use Prim.Native.Nat.{ℕ, _+_, _≤_, min}
 use native.Mathlib.Omega.{arith}
-use lib.Dec.{ltb, leb, eqb}
-use borrow.Author.Tests.{leb-true, le-leb, lt-ltb, leb-false, ltb-false}
+use lib.Dec.{ltb, leb}
+use borrow.Author.Tests.{le-leb, lt-ltb, leb-false, ltb-false}
 use Rattle.octets.specs.Choice.{if_then_else_}
-use Rattle.octets.proofs.JoinedTests.{and-left, and-right, both, together}
+use Rattle.octets.proofs.JoinedTests.{both, together}
 use Rattle.record.specs.declared.Attributes.{Attributes}
 use Rattle.record.specs.declared.Window.{Window}
 use Rattle.record.specs.declared.Window.the-variants.{Off, D, N}
@@ -55,25 +55,26 @@ allowed-after a s h l =
 allowed-high : (a : Attributes) → legalAttributes a ≡ true → Allowed a (a .«minimum_high»)
 allowed-high a h = record { low = le-leb _ _ (low-high a h); high = le-leb (a .«minimum_high») (a .«minimum_high») (omega arith) }
 
-disabling-leaves : (w : Window) → movedBy w Disable ≡ N → ⊥
-disabling-leaves Off e = omega (arith, ap windowNo e)
-disabling-leaves D e = omega (arith, ap windowNo e)
-disabling-leaves N e = omega (arith, ap windowNo e)
+-- neither disable nor select D leads to N
+disable-not-to-n : (w : Window) → movedBy w Disable ≡ N → ⊥
+disable-not-to-n Off e = omega (arith, ap windowNo e)
+disable-not-to-n D e = omega (arith, ap windowNo e)
+disable-not-to-n N e = omega (arith, ap windowNo e)
 
-select-d-leaves : (w : Window) → movedBy w SelectD ≡ N → ⊥
-select-d-leaves Off e = omega (arith, ap windowNo e)
-select-d-leaves D e = omega (arith, ap windowNo e)
-select-d-leaves N e = omega (arith, ap windowNo e)
+select-d-not-to-n : (w : Window) → movedBy w SelectD ≡ N → ⊥
+select-d-not-to-n Off e = omega (arith, ap windowNo e)
+select-d-not-to-n D e = omega (arith, ap windowNo e)
+select-d-not-to-n N e = omega (arith, ap windowNo e)
 
--- that of every cause which leads to N
+-- every cause that leads to N makes such a need
 allowed : (c : Cause) (a : Attributes) (s : State) → legalAttributes a ≡ true → movedBy (s .window) c ≡ N → Allowed a (needBy c a (timeInD a s))
 allowed Enable a s h e = allowed-high a h
-allowed Disable a s h e = absurd (disabling-leaves (s .window) e)
-allowed SelectD a s h e = absurd (select-d-leaves (s .window) e)
-allowed SelectN a s h e = allowed-after a (timeInD a s) h (omega arith)
-allowed Excursion a s h e = allowed-after a (timeInD a s) h (omega arith)
-allowed Exceeded a s h e = allowed-after a (timeInD a s) h (omega arith)
-allowed TimeUp a s h e = allowed-after a (a .«time_maximum») h (omega arith)
+allowed Disable a s h e = absurd (disable-not-to-n (s .window) e)
+allowed SelectD a s h e = absurd (select-d-not-to-n (s .window) e)
+allowed SelectN a s h e = allowed-after a _ h (omega arith)
+allowed Excursion a s h e = allowed-after a _ h (omega arith)
+allowed Exceeded a s h e = allowed-after a _ h (omega arith)
+allowed TimeUp a s h e = allowed-after a _ h (omega arith)
 
 -- every window's start is legal
 starts :

@@ -1,8 +1,9 @@
 -- The laws of the door.
-use mathlib.Core.Path.{_≡_, refl}
+use mathlib.Core.Path.{_≡_, refl, ap}
+use Prim.Native.Nat.{ℕ, _+_, _-_, min}
 use mathlib.Core.Bool.{Bool, true, false, not, _&&_}
 use native.Mathlib.Omega.{arith}
-use lib.Dec.{leb, ltb}
+use lib.Dec.{leb}
 use borrow.Author.Tests.{ltb-true}
 use Rattle.octets.specs.Choice.{if_then_else_}
 use Rattle.octets.proofs.JoinedTests.{and-left, and-right}
@@ -19,7 +20,7 @@ use Rattle.rules.specs.declared.Media.{Media}
 use Rattle.rules.specs.declared.Media.the-variants as media
 use Rattle.rules.specs.Changes.{movedBy}
 use Rattle.rules.specs.Door.{restarts, timeInD, into, stays, going, Leads, StartsAnew, HeldStays, EnablingNeedsHigh, LeavingNeeds, TimeUpNeedsHigh}
-use Rattle.rules.specs.Rules.{mediaRule, leaving, CarriesNone, NeedStays}
+use Rattle.rules.specs.Rules.{mediaRule, leaving, CarriesNone, TimeUpRecovers, NeedStays}
 use Rattle.rules.proofs.Needs.{need-ends}
 
 -- windows of one number are one
@@ -76,6 +77,14 @@ leaving-needs a s e l = let t = time-below a s e l in (rw (e, t), rw (e, t), rw 
 pub time-up-needs-high : TimeUpNeedsHigh
 unfolding going
 time-up-needs-high a s e h = rw e (need-ends a h .1)
+
+pub time-up-recovers : TimeUpRecovers
+unfolding leaving going
+time-up-recovers n a s e h =
+    let high = a .«minimum_high» in
+    let x = n - a .«time_maximum» in
+    let z : 0 + x ≡ x = omega arith in
+    rw (e, need-ends a h .1) (ap (λ (t : ℕ). recovers (min t high) high) z)
 
 pub need-stays : NeedStays
 unfolding going

@@ -1,14 +1,14 @@
 -- The laws of the need, and that the code's numbers have room for it.
-use mathlib.Core.Path.{_≡_, refl}
+use mathlib.Core.Path.{_≡_}
 use mathlib.Core.Bool.{true}
-use Prim.Native.Nat.{ℕ, _+_, _*_, _-_, _/_, _≤_, _<_, _^_, min}
+use Prim.Native.Nat.{ℕ, _+_, _*_, _-_, _≤_, _<_, _^_}
 use native.Mathlib.Omega.{arith}
 use native.Mathlib.Nat.{mul-le-mul, mul-le-mul-left, div-lt-iff-lt-mul, le-div-iff-mul-le, div-mul-le-self, add-mul, div-zero}
 use borrow.Author.Tests.{leb-true}
 use Rattle.octets.proofs.JoinedTests.{and-left, and-right}
 use Rattle.record.specs.declared.Attributes.{Attributes}
 use Rattle.record.specs.Legal.{legalAttributes}
-use Rattle.rules.specs.Need.{upBy, needAfter, NeedWithin, NeedRises, NeedEnds, NeedRounded}
+use Rattle.rules.specs.Need.{upBy, needAfter, productMaximum, NeedWithin, NeedRises, NeedEnds, NeedRounded}
 
 -- ---- what of a legal set's numbers is used
 
@@ -83,13 +83,13 @@ need-rounded a s h =
 
 -- ---- for the code
 
--- two numbers of 32 bits, and one more
-pub product-fits : (x s : ℕ) → x < 2 ^ 32 → s < 2 ^ 32 → x * s ≤ 18446744065119617025
+-- a product of two numbers of 32 bits
+pub product-fits : (x s : ℕ) → x < 2 ^ 32 → s < 2 ^ 32 → x * s ≤ productMaximum
 product-fits x s h k =
     let p : x * s ≤ 4294967295 * 4294967295 = mul-le-mul {n₂ = 4294967295} {m₂ = 4294967295} (omega arith) (omega arith) in
     omega arith
 
--- with no maximum
+-- where maximum is 0, which no legal set has
 pub no-maximum : (a : Attributes) (s : ℕ) → a .«time_maximum» ≡ 0 → a .«minimum_low» ≡ needAfter a s
 unfolding needAfter
 no-maximum a s z = rw (z, div-zero ((a .«minimum_high» - a .«minimum_low») * s + (0 - 1))) (omega arith)

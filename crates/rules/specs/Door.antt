@@ -37,8 +37,8 @@ carriedBy Excursion excess = 0
 carriedBy Exceeded excess = 0
 carriedBy TimeUp excess = excess
 
--- s of 02's need: how long D has lasted. No legal set was in it for more than maximum; of any other that much counts, so that whatever
--- the record a need is at most the greater of low and high.
+-- s of 02's need: how long D has lasted. Of a legal set that is below maximum. Where another record holds more, maximum counts, so that
+-- the need of any record is at most the greater of low and high.
 abbrev pub timeInD : Attributes → State → ℕ
 timeInD a s = min (s .spent .time) (a .«time_maximum»)
 
@@ -58,7 +58,7 @@ needIn w c a s = byWindow w 0 0 (needBy c a (timeInD a s))
 
 -- ---- the door
 
--- a window's start: "Entering D zeroes reads, writes and time"; outside D they are zero, and N starts with no time in it
+-- a window's start: "Entering D zeroes reads, writes and time"; outside D they are zero, and N starts with no time in it and its need
 abbrev pub into : Window → Cause → Attributes → State → State
 into w c a s = stateOf w (s .config) nothingSpent (recovers 0 (needIn w c a s))
 

@@ -14,6 +14,10 @@ upBy x y = (x + (y - 1)) / y
 unfoldable pub needAfter : Attributes → ℕ → ℕ
 needAfter a s = a .«minimum_low» + upBy ((a .«minimum_high» - a .«minimum_low») * s) (a .«time_maximum»)
 
+-- for the code: the largest product of two numbers of 32 bits, which leaves room in 64 for one of them more
+abbrev pub productMaximum : ℕ
+productMaximum = 18446744065119617025
+
 -- ---- Laws, of every legal set, proved under their names, in lower case and with dashes, in proofs/Needs.antt.
 
 -- the need lies between low and high, for every s up to maximum
@@ -32,7 +36,7 @@ NeedEnds =
     (a : Attributes) → legalAttributes a ≡ true
     → (needAfter a 0 ≡ a .«minimum_low») × (needAfter a (a .«time_maximum») ≡ a .«minimum_high»)
 
--- "rounded up": times maximum, what it has above low is no less than (high - low) x s, and by less than maximum more
+-- "rounded up": what the need has above low, times maximum, is at least (high - low) x s, and less than maximum above it
 abbrev pub NeedRounded : Type 0
 NeedRounded =
     (a : Attributes) (s : ℕ) → legalAttributes a ≡ true

@@ -21,6 +21,7 @@ use Rattle.record.specs.declared.Effect.{Effect}
 use Rattle.record.specs.Parts.{recovers, configured, havingRecovered, effectOf}
 use Rattle.record.specs.Quantities.{limit, spentOf, threshold, enables, needMet, spending}
 use Rattle.record.specs.Windows.{byWindow, sameWindow}
+use Rattle.record.specs.Legal.{legalAttributes}
 use Rattle.rules.specs.Changes.{movedBy}
 use Rattle.rules.specs.Door.{carriedBy, going}
 use Rattle.record.specs.Event.{leftOf, noEvents, warning, warns, startsBelow, enteringD, andExceeded, anExcursion}
@@ -124,8 +125,8 @@ tick t a s = byWindow (s .window) (still s) (charge Time t a s) (still (recoveri
 abbrev pub clearingRead : State → Effect
 clearingRead s = effectOf s noEvents true
 
--- ---- Laws, each proved under its name, in lower case and with dashes: those on warnings in proofs/Warnings.antt, the last two in
--- proofs/Leads.antt.
+-- ---- Laws, each proved under its name, in lower case and with dashes: those on warnings in proofs/Warnings.antt, the last three
+-- in proofs/Leads.antt.
 
 -- "threshold 0 never warns": no estimate is below it
 abbrev pub ZeroNeverWarns : Type 0
@@ -148,6 +149,12 @@ abbrev pub CarriesNone : Type 0
 CarriesNone =
     (q : Quantity) (n : ℕ) (a : Attributes) (s : State) → s .window ≡ D → (causeOver q ≡ TimeUp → ⊥)
     → leaving q n a s .recovery .time ≡ 0
+
+-- 02: "Time up counts s as maximum.", "N time stops at the need": after time up a legal set has the excess as N time, at most high
+abbrev pub TimeUpRecovers : Type 0
+TimeUpRecovers =
+    (n : ℕ) (a : Attributes) (s : State) → s .window ≡ D → legalAttributes a ≡ true
+    → leaving Time n a s .recovery ≡ recovers (min (n - a .«time_maximum») (a .«minimum_high»)) (a .«minimum_high»)
 
 -- in N the need stays what it was when N began: no media event, tick, select N or clearing read reckons it anew
 abbrev pub NeedStays : Type 0

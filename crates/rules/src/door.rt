@@ -51,7 +51,7 @@ fn time_in_d(a: Attributes, s: State) -> u32
     if n < most { n } else { most }
 }
 
-// How long N must last that a cause leads to.
+// How long the N must last that a cause leads to.
 fn need_by(c: Cause, a: Attributes, s: u32) -> u32
     requires { ⌜ s ≤ a .«time_maximum» ⌝ }
     ensures { λ r. ⌜ r ≡ needBy c a s ⌝ }

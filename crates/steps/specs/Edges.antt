@@ -1,4 +1,5 @@
--- 01, "Edges to show": "Starred ones are proved about the written rules, gathered in a single table under a single claim".
+-- 01, "Edges to show": "Starred ones are proved about the written rules, gathered in a single table under a single claim"; and 02's
+-- short windows, in the same table.
 -- "Same set", of the whole run: set 7 (`seven` of Order.antt).
 use mathlib.Core.Path.{_≡_}
 use mathlib.Core.Bool.{Bool, true, false}
@@ -152,7 +153,7 @@ twelve =
     ∷ edge 6 (step inD (tick 1000 0)) (says 0 0 []) (left N 0x4001 (limits 10 0 0) (spends 0 0 0) 0 20 0x4000 true)
     -- "tick 1007: N, time 7."
     ∷ edge 7 (step inD (tick 1007 0)) (says 0 0 []) (left N 0x4001 (limits 10 0 0) (spends 0 0 0) 7 20 0x4000 true)
-    -- "enabled, N time 19, select D: 07C1h."
+    -- "enabled, N time 19, select D: 07C1h." 02: "cases 8 and 9 now speak of the need", which after enabling is high, 20
     ∷ edge 8 (step (cardIn N warned (recovers 19 20)) selectD) (says 0x07C1 0 []) (left N 0x4001 (limits 10 0 0) (spends 0 0 0) 19 20 0x0000 false)
     -- "N time 20: D."
     ∷ edge 9 (step (cardIn N warned (recovers 20 20)) selectD) (says 0 0 []) (left D 0x4001 (limits 10 0 0) (spends 0 0 0) 0 0 0x0000 false)

@@ -24,7 +24,7 @@ use Rattle.table.specs.LegalWords.{word, staticsLegal, inD, inN, withinB
 bits-within : (e : Events) → withinBits (bitsOf e) ≡ true
 bits-within e = eq-eqb _ _ (ap bitsOf (sym (events-back e)) ∙ masked (bitsOf e))
 
--- of tests that hold together, the first of two is asked last
+-- of tests that must all hold, m may as well be asked last
 last-first : (x m l h : Bool) → x && m && (l && h) ≡ x && (l && h && m)
 last-first true true true true = refl
 last-first true true true false = refl
@@ -105,10 +105,10 @@ statics a h =
       low = search (and-left, and-right, leb-true) depth 16;
     }
 
--- N time is within the need, and the need within its limit; both are zero outside N
-within-need : (here : Bool) (m n low high : ℕ) → zeroOutside here (leb m n) m ≡ true → zeroOutside here (leb low n && leb n high) n ≡ true → (m ≤ high) × (n ≤ high)
-within-need true m n low high h k = let t = leb-true m n h in let l = leb-true n high (and-right (leb low n) (leb n high) k) in (omega arith, l)
-within-need false m n low high h k = let z = eqb-true m 0 h in let y = eqb-true n 0 k in (omega arith, omega arith)
+-- so N time and the need are at most high, in N and outside it
+recovery-small : (here : Bool) (m n low high : ℕ) → zeroOutside here (leb m n) m ≡ true → zeroOutside here (leb low n && leb n high) n ≡ true → (m ≤ high) × (n ≤ high)
+recovery-small true m n low high h k = let t = leb-true m n h in let l = leb-true n high (and-right (leb low n) (leb n high) k) in (omega arith, l)
+recovery-small false m n low high h k = let z = eqb-true m 0 h in let y = eqb-true n 0 k in (omega arith, omega arith)
 
 -- a count that is within its limit in one window, and zero outside it, is within it anyway
 within : (here b : Bool) (x most : ℕ) → (b ≡ true → x ≤ most) → zeroOutside here b x ≡ true → x ≤ most
@@ -126,7 +126,7 @@ pub record Changing (a : List ℕ) : Type 0 where
 
 pub changing : (a : List ℕ) → changingLegal a ≡ true → Changing a
 changing a h =
-    let w = within-need (inN a) (word a 21) (word a 22) (word a 12) (word a 11) (search (and-left, and-right) depth 16) (search (and-left, and-right) depth 16) in
+    let w = recovery-small (inN a) (word a 21) (word a 22) (word a 12) (word a 11) (search (and-left, and-right) depth 16) (search (and-left, and-right) depth 16) in
     record {
       enev = search (and-left, and-right) depth 16;
       window = search (and-left, and-right, leb-true) depth 16;

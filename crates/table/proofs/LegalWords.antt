@@ -146,14 +146,15 @@ pub at-most : (here : Bool) (x most : ℕ) → leb x (if here then most else 0) 
 at-most true x most = refl
 at-most false x most = at-zero x
 
--- N time and the need, which is at least low in N
-pub needed :
+-- the code's tests of N time and the need, after the others (x): N time against the need in every window, the need against bounds
+-- that are 0 outside N
+pub recovery-tested :
     (x here : Bool) (m n low : ℕ) (within : Bool)
     → x && leb m n && (leb (if here then low else 0) n && zeroOutside here within n)
     ≡ x && zeroOutside here (leb m n) m && zeroOutside here (leb low n && within) n
-needed x true m n low within = refl
-needed x false m zero low within = rw (at-zero m)
-needed x false m (suc n) low within =
+recovery-tested x true m n low within = refl
+recovery-tested x false m zero low within = rw (at-zero m)
+recovery-tested x false m (suc n) low within =
     rw (le-leb 0 (suc n) (omega arith), ne-eqb (suc n) 0 (λ z. omega arith), and-false (x && leb m (suc n)), and-false (x && eqb m 0))
 
 pub below : (here : Bool) (x most : ℕ) → ltb x (if here then most else 1) ≡ zeroOutside here (ltb x most) x
