@@ -12,7 +12,7 @@ ghost use Rattle.replies.specs.Answers.{Replied};
 ghost use Rattle.rules.specs.Rules.{still, clearingRead, configure, selecting};
 ghost use Rattle.pages.specs.Features.{featureSize, configIn};
 ghost use Rattle.commands.specs.declared.Kind.{Kind};
-ghost use Rattle.commands.specs.Commands.{enable, windowCause, retain, offset};
+ghost use Rattle.commands.specs.Commands.{enable, causeBy, windowCause, retain, offset};
 ghost use Rattle.commands.specs.Shapes.{shapeOf, isNamed, needsIn, needsOut};
 ghost use Rattle.commands.specs.StatusTable.{earlyLines};
 ghost use Rattle.steps.specs.Commanded.{noticesNo, modeNo, answerOf};
@@ -22,15 +22,17 @@ use commands::Kind;
 use commands::enables;
 use commands::offset_of;
 use commands::retains;
+use commands::selects_d;
 use commands::shapes::needs_out;
 use commands::status_table::found_status;
-use commands::window_cause;
 use pages::features::FEATURE_SIZE;
 use pages::features::config_in;
 use pages::features::config_onto;
 use pages::latency::LATENCY_SIZE;
 use pages::latency::latency_onto;
 use pages::latency::latency_page;
+use record::Attributes;
+use record::Effect;
 use record::Record;
 use record::State;
 use record::Window;
@@ -39,6 +41,7 @@ use record::windows::window_no;
 use replies::Reply;
 use replies::done;
 use replies::give;
+use rules::Cause;
 use rules::clearing_read;
 use rules::go_to_selected;
 use rules::keep_still;
@@ -66,12 +69,23 @@ pub fn after_config(r: Record, c: Command, given: &[u8]) -> Record
     settle(r, set_mode(a, s, enables(c), config_in(given)))
 }
 
+// That each cause stands in the code lets the compiler read the table's columns ahead.
+fn select_by(a: Attributes, s: State, d: bool) -> Effect
+    ensures { λ r. ⌜ r ≡ selecting (causeBy d) a s ⌝ }
+{
+    if d {
+        go_to_selected(a, s, Cause::SelectD)
+    } else {
+        go_to_selected(a, s, Cause::SelectN)
+    }
+}
+
 pub fn after_window(r: Record, c: Command) -> Record
     ensures { λ x. ⌜ x ≡ settled r (selecting (windowCause c) (r .attributes) (r .state)) ⌝ }
 {
     let a = r.attributes;
     let s = r.state;
-    settle(r, go_to_selected(a, s, window_cause(c)))
+    settle(r, select_by(a, s, selects_d(c)))
 }
 
 // A read of page 0Ah with Retain 0.

@@ -1,6 +1,6 @@
 -- The step on a region's words, in their place.
 use mathlib.Core.Path.{_≡_, refl, sym, ap, ap₂, _∙_}
-use mathlib.Core.Bool.{Bool, true, false, not, _&&_, _||_, and-false, or-assoc}
+use mathlib.Core.Bool.{Bool, true, false, not, _&&_, _||_, and-false, or-assoc, false≢true}
 use mathlib.Core.List.{List, [], map}
 use Prim.Native.Nat.{ℕ, _+_, _/_, _≤_, _<_}
 use native.Mathlib.Omega.{arith}
@@ -35,7 +35,7 @@ use Rattle.table.proofs.Records.{row-of, length-words}
 use Rattle.table.proofs.Written.{put-own}
 use Rattle.table.proofs.LegalTables.{legal-known, length-records, slot-legal, is-here}
 use Rattle.table.proofs.Turns.{later-more}
-use Rattle.region.specs.Region.{tableIn, tableOut, recordAt, withRecord, LegalAt, Moved, Silent, TellsAt}
+use Rattle.region.specs.Region.{tableIn, tableOut, recordAt, withRecord, LegalAt, Moved, TellsAt}
 use Rattle.region.proofs.Words.{length-in, own-region}
 use Rattle.region.proofs.EveryRow.{Undone, undone-row}
 use Rattle.region.proofs.AtDesk.{stored-there, told-words, told-region}
@@ -59,15 +59,22 @@ use Rattle.card_c.specs.InPlace.{ruledBy, RuledAt, AnswerAtC, OnSetAtC}
 -- ---- an effect on the record of a slot
 
 module _ (r₀ r : Record) (e : Effect) (x : Record) (er : r ≡ r₀) (ec : e .state .config ≡ r .state .config) (ex : x ≡ settled r e) where
-  pub is-moved : Moved r₀ x
-  is-moved = record { attributes = ap (λ (y : Record). y .attributes) ex ∙ ap (λ (y : Record). y .attributes) er; config = ap (λ (y : Record). y .state .config) ex ∙ ec ∙ ap (λ (y : Record). y .state .config) er }
+  moved : (noted : Bool) → (noted ≡ false → isSilent e ≡ true) → Moved noted r₀ x
+  moved noted h =
+      record {
+        attributes = ap (λ (y : Record). y .attributes) ex ∙ ap (λ (y : Record). y .attributes) er;
+        config = ap (λ (y : Record). y .state .config) ex ∙ ec ∙ ap (λ (y : Record). y .state .config) er;
+        notes = λ n. ap (λ (y : Record). y .notes) ex ∙ silent-notes r e (h n) ∙ ap (λ (y : Record). y .notes) er;
+      }
 
-  -- one that notes nothing lists nothing
-  pub lists-none : isSilent e ≡ true → false ≡ newlyListed r (settled r e)
-  lists-none h = sym (ap (λ (n : Notes). not (r .notes .listed) && n .listed) (silent-notes r e h) ∙ new-self r)
+  -- whatever it notes
+  pub is-moved : Moved true r₀ x
+  is-moved = moved true (λ n. absurd (false≢true (sym n)))
 
-  pub is-silent : isSilent e ≡ true → Silent r₀ x
-  is-silent h = record { moved = is-moved; notes = ap (λ (y : Record). y .notes) ex ∙ silent-notes r e h ∙ ap (λ (y : Record). y .notes) er }
+  -- by whether it is silent
+  pub is-noted : (silent : Bool) → silent ≡ isSilent e → Moved (not silent) r₀ x
+  is-noted true h = moved false (λ n. sym h)
+  is-noted false h = is-moved
 
 -- that of a rule
 module _ (rule : Attributes → State → Effect) (r₀ r : Record) (e : Effect) (er : r ≡ r₀) (ee : e ≡ rule (r .attributes) (r .state)) where

@@ -20,7 +20,6 @@ use record::event::settle;
 use record::legal::DAY_MS;
 use region::load;
 use region::store_moved;
-use region::store_silent;
 use replies::Reply;
 use replies::beside;
 use replies::done;
@@ -41,12 +40,9 @@ fn store_effect(region: &mut [u8], slot: Slot, r: Record, e: Effect) -> bool
     requires { ⌜ LegalAt (now region) (slot .0) × (r ≡ recordAt (now region) (slot .0)) × (e .state .config ≡ r .state .config) ⌝ }
     ensures { λ b. ⌜ (now (region .exit) ≡ withRecord (now (region .entry)) (slot .0) (settled r e)) × (b ≡ newlyListed r (settled r e)) ⌝ }
 {
-    if is_silent(e) {
-        store_silent(region, slot, settle(r, e));
-        return false;
-    }
     let x = settle(r, e);
-    store_moved(region, slot, x);
+    let silent = is_silent(e);
+    store_moved(region, slot, x, !silent);
     newly_listed(r, x)
 }
 

@@ -75,8 +75,11 @@ windowValue c = bits 2 0 (c .cdw12)
 abbrev pub causeBy : Bool → Cause
 causeBy d = if d then SelectD else SelectN
 
+abbrev pub selectsD : Command → Bool
+selectsD c = eqb (windowValue c) (windowNo D)
+
 abbrev pub windowCause : Command → Cause
-windowCause c = causeBy (eqb (windowValue c) (windowNo D))
+windowCause c = causeBy (selectsD c)
 
 -- ---- "Log: CDW10 7:0 page, bit 15 Retain, 31:16 low count; CDW11 15:0 high count, 31:16 set for 0Ah; CDW12 and CDW13 low
 -- and high byte offset. Dwords moved are count + 1."

@@ -5,7 +5,7 @@ pub mod status_table;
 ghost use mathlib.Core.Path.{_≡_};
 ghost use Prim.Native.Nat.{_≤_};
 ghost use lib.ListN.{length};
-ghost use Rattle.commands.specs.Commands.{commandSize, dwordsOf, commandIn, bits, opcode, chosen, save, select, featureSet, enable, windowValue, causeBy, windowCause, retain, dwords, logSet, offset, asked, identifier, turnsOn};
+ghost use Rattle.commands.specs.Commands.{commandSize, dwordsOf, commandIn, bits, opcode, chosen, save, select, featureSet, enable, windowValue, causeBy, selectsD, windowCause, retain, dwords, logSet, offset, asked, identifier, turnsOn};
 use octets::numbers::word;
 use record::SetId;
 use rules::Cause;
@@ -177,10 +177,17 @@ fn cause_by(d: bool) -> Cause
     if d { Cause::SelectD } else { Cause::SelectN }
 }
 
+// Whether it is D that Set Features 14h selects.
+pub fn selects_d(c: Command) -> bool
+    ensures { λ r. ⌜ r ≡ selectsD c ⌝ }
+{
+    window_value(c) == WINDOW_D
+}
+
 pub fn window_cause(c: Command) -> Cause
     ensures { λ r. ⌜ r ≡ windowCause c ⌝ }
 {
-    cause_by(window_value(c) == WINDOW_D)
+    cause_by(selects_d(c))
 }
 
 pub fn retains(c: Command) -> bool

@@ -1,13 +1,13 @@
 -- The words of a region: one of them, a row of them, and a row put back.
 use mathlib.Core.Path.{_≡_, refl, sym, ap, _∙_}
-use mathlib.Core.List.{List}
+use mathlib.Core.List.{List, _++_}
 use Prim.Native.Nat.{ℕ, _+_, _*_, _-_, _/_, _≤_, _<_}
 use native.Mathlib.Omega.{arith}
-use lib.ListN.{length, getD, take, drop, drop-of-length-le}
-use lib.Seq.{sets}
+use lib.ListN.{length, getD, take, drop, length-take, length-drop, drop-of-length-le}
+use lib.Seq.{sets, drop-drop, take-add}
 use Rattle.octets.specs.Octets.{numberOf, part, AllBytes}
 use Rattle.octets.specs.Words.{wordSize, AllWords, wordsFrom, putWords}
-use Rattle.octets.proofs.WordBytes.{length-words, own-words, length-put-words}
+use Rattle.octets.proofs.WordBytes.{length-words, own-words, put-append, length-put-words}
 use Rattle.octets.proofs.InPlace.{words-back, words-read, word-of, first-words, later-words, rest-words, put-within, put-part}
 use Rattle.table.specs.Layout.{rowWords}
 use Rattle.table.specs.Table.{Tells, rowStart, row, put}
@@ -71,6 +71,28 @@ row-ends b xs slot n h =
     let x : length xs ≤ rowWords = omega arith in
     let y : length (row (tableIn b) slot) ≤ rowWords = omega (arith, w) in
     drop-of-length-le xs x ∙ sym (drop-of-length-le (row (tableIn b) slot) y)
+
+-- part-out in two parts, the second up to the row's end
+pub parts-out :
+    (b xs : List ℕ) (slot from mid at next : ℕ) → AllBytes b → length xs ≡ rowWords → rowStart (slot + 1) ≤ length b / wordSize → from ≤ mid → mid ≤ rowWords
+    → take from xs ≡ take from (row (tableIn b) slot) → at ≡ (rowStart slot + from) * wordSize → next ≡ (rowStart slot + mid) * wordSize
+    → putWords (putWords b at (part xs from (mid - from))) next (part xs mid (rowWords - mid)) ≡ tableOut b (put (tableIn b) slot xs)
+parts-out b xs slot from mid at next each n h order end before e f =
+    let first = part xs from (mid - from) in
+    let rest = part xs mid (rowWords - mid) in
+    let long : length first ≡ mid - from = simp (length-take, length-drop) (omega arith) in
+    let g : next ≡ at + length first * wordSize = omega (arith, e, f, long) in
+    let m : from + (mid - from) ≡ mid = omega arith in
+    let k : mid - from + (rowWords - mid) ≡ rowWords - from = omega arith in
+    let joined : first ++ rest ≡ part xs from (rowWords - from) =
+    ap (λ (i : ℕ). first ++ take (rowWords - mid) (drop i xs)) (sym m)
+    ∙ ap (λ (l : List ℕ). first ++ take (rowWords - mid) l) (sym (drop-drop (mid - from) from xs))
+    ∙ sym (take-add (mid - from) (rowWords - mid) (drop from xs))
+    ∙ ap (λ (i : ℕ). take i (drop from xs)) k in
+    ap (λ (i : ℕ). putWords (putWords b at first) i rest) g
+    ∙ sym (put-append first rest b at)
+    ∙ ap (putWords b at) joined
+    ∙ part-out b xs slot from rowWords at each n h (omega arith) (omega arith) before (row-ends b xs slot n h) e
 
 -- a region's own words, put back
 pub own-region : (b : List ℕ) → AllBytes b → tableOut b (tableIn b) ≡ b

@@ -1,6 +1,6 @@
 -- 01: "there the table passes as its words' little-endian bytes"
 use mathlib.Core.Path.{_≡_}
-use mathlib.Core.Bool.{true}
+use mathlib.Core.Bool.{Bool, true, false}
 use mathlib.Core.List.{List, [], _∷_}
 use Prim.Native.Nat.{ℕ, suc, _+_, _*_, _/_, _≤_}
 use lib.ListN.{length}
@@ -33,15 +33,12 @@ pub record LegalAt (region : List ℕ) (slot : ℕ) : Type 0 where
   pub room : rowStart (slot + 1) ≤ length region / wordSize
   pub legal : legalRow (row (tableIn region) slot) ≡ true
 
--- a record that has another one's attributes and configuration, as every item but Set Features 13h leaves them
-pub record Moved (r x : Record) : Type 0 where
+-- a record that has another one's attributes and configuration, as every item but Set Features 13h leaves them; and where nothing was
+-- noted its notes too
+pub record Moved (noted : Bool) (r x : Record) : Type 0 where
   pub attributes : x .attributes ≡ r .attributes
   pub config : x .state .config ≡ r .state .config
-
--- and its notes too, as an item with no event leaves them
-pub record Silent (r x : Record) : Type 0 where
-  pub moved : Moved r x
-  pub notes : x .notes ≡ r .notes
+  pub notes : noted ≡ false → x .notes ≡ r .notes
 
 -- ---- many slots
 

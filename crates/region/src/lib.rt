@@ -10,7 +10,7 @@ ghost use Rattle.record.specs.Parts.{idOf};
 ghost use Rattle.desk.specs.Desk.{queued, turned, lifted, settle, requestsMaximum};
 ghost use Rattle.table.specs.Card.{headerWords, deskStart};
 ghost use Rattle.table.specs.Table.{deskPart, deskAt, withDesk, DeskThere, count, rowStart, row, rows, sized, legalRows, legalTable, Legal, recordsOf, findIn, enterIn, listedWord};
-ghost use Rattle.region.specs.Region.{tableIn, tableOut, recordAt, withRecord, LegalAt, Moved, Silent, TellsAt};
+ghost use Rattle.region.specs.Region.{tableIn, tableOut, recordAt, withRecord, LegalAt, Moved, TellsAt};
 use desk::DESK;
 use octets::casts::to_size;
 use octets::words::WORD;
@@ -63,32 +63,18 @@ pub fn store(bytes: &mut [u8], slot: Slot, r: Record)
     words_out(&a, bytes, WORD * HEADER + i * (WORD * ROW));
 }
 
-// The same where the row's attributes and configuration stay: they are not written again.
-pub fn store_moved(bytes: &mut [u8], slot: Slot, r: Record)
-    requires { ⌜ LegalAt (now bytes) (slot .0) × Moved (recordAt (now bytes) (slot .0)) r ⌝ }
+// The same where the row's attributes and configuration stay: they are not written again, nor are the notes where nothing was noted.
+pub fn store_moved(bytes: &mut [u8], slot: Slot, r: Record, noted: bool)
+    requires { ⌜ LegalAt (now bytes) (slot .0) × Moved noted (recordAt (now bytes) (slot .0)) r ⌝ }
     ensures { λ _. ⌜ now (bytes .exit) ≡ withRecord (now (bytes .entry)) (slot .0) r ⌝ }
 {
     let a = words_of(r);
     let i = slot.0;
-    words_out(
-        &a[WINDOW..ROW],
-        bytes,
-        WORD * HEADER + i * (WORD * ROW) + WORD * WINDOW,
-    );
-}
-
-// And where its notes stay too.
-pub fn store_silent(bytes: &mut [u8], slot: Slot, r: Record)
-    requires { ⌜ LegalAt (now bytes) (slot .0) × Silent (recordAt (now bytes) (slot .0)) r ⌝ }
-    ensures { λ _. ⌜ now (bytes .exit) ≡ withRecord (now (bytes .entry)) (slot .0) r ⌝ }
-{
-    let a = words_of(r);
-    let i = slot.0;
-    words_out(
-        &a[WINDOW..NOTES],
-        bytes,
-        WORD * HEADER + i * (WORD * ROW) + WORD * WINDOW,
-    );
+    let at = WORD * HEADER + i * (WORD * ROW);
+    words_out(&a[WINDOW..NOTES], bytes, at + WORD * WINDOW);
+    if noted {
+        words_out(&a[NOTES..ROW], bytes, at + WORD * NOTES);
+    }
 }
 
 // A word of the region.

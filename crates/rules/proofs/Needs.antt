@@ -1,7 +1,7 @@
 -- The laws of the need, and that the code's numbers have room for it.
-use mathlib.Core.Path.{_≡_}
+use mathlib.Core.Path.{_≡_, ap}
 use mathlib.Core.Bool.{true}
-use Prim.Native.Nat.{ℕ, _+_, _*_, _-_, _≤_, _<_, _^_}
+use Prim.Native.Nat.{ℕ, _+_, _*_, _-_, _≤_, _<_, _^_, min}
 use native.Mathlib.Omega.{arith}
 use native.Mathlib.Nat.{mul-le-mul, mul-le-mul-left, div-lt-iff-lt-mul, le-div-iff-mul-le, div-mul-le-self, add-mul, div-zero}
 use borrow.Author.Tests.{leb-true}
@@ -94,6 +94,27 @@ pub no-maximum : (a : Attributes) (s : ℕ) → a .«time_maximum» ≡ 0 → a 
 unfolding needAfter
 no-maximum a s z = rw (z, div-zero ((a .«minimum_high» - a .«minimum_low») * s + (0 - 1))) (omega arith)
 
+-- after a full window: whatever low and high are, the greater of them
+full : (a : Attributes) → (a .«time_maximum» ≡ 0 → ⊥) → needAfter a (a .«time_maximum») ≡ a .«minimum_low» + (a .«minimum_high» - a .«minimum_low»)
+unfolding needAfter
+full a z =
+    let d = a .«minimum_high» - a .«minimum_low» in
+    let p : 0 < a .«time_maximum» = omega arith in
+    omega (arith, up-most d (a .«time_maximum») (a .«time_maximum») p (omega arith), up-full d (a .«time_maximum») p)
+
+pub full-high : (a : Attributes) → (a .«time_maximum» ≡ 0 → ⊥) → a .«minimum_low» < a .«minimum_high» → a .«minimum_high» ≡ needAfter a (a .«time_maximum»)
+full-high a z l = omega (arith, full a z)
+
+pub full-low : (a : Attributes) → (a .«time_maximum» ≡ 0 → ⊥) → a .«minimum_high» ≤ a .«minimum_low» → a .«minimum_low» ≡ needAfter a (a .«time_maximum»)
+full-low a z l = omega (arith, full a z)
+
+-- of a time in D no more than maximum counts
+pub counted : (a : Attributes) (n : ℕ) → n < a .«time_maximum» → needAfter a n ≡ needAfter a (min n (a .«time_maximum»))
+counted a n l = ap (needAfter a) (omega arith)
+
+pub all-counted : (a : Attributes) (n : ℕ) → a .«time_maximum» ≤ n → needAfter a (a .«time_maximum») ≡ needAfter a (min n (a .«time_maximum»))
+all-counted a n l = ap (needAfter a) (omega arith)
+
 -- put together of its parts
 module _ (a : Attributes) (s more x up : ℕ)
     (e : more ≡ a .«minimum_high» - a .«minimum_low») (f : x ≡ more * s) (g : up ≡ upBy x (a .«time_maximum»)) where
@@ -102,10 +123,8 @@ module _ (a : Attributes) (s more x up : ℕ)
   is-need = rw (g, f, e)
 
   -- whatever low and high are, it has no more bits than they
-  pub need-fits :
-      (a .«time_maximum» ≡ 0 → ⊥) → s ≤ a .«time_maximum» → a .«minimum_low» < 2 ^ 32 → a .«minimum_high» < 2 ^ 32
-      → a .«minimum_low» + up < 2 ^ 32
-  need-fits z l h k =
-      let u = up-most (a .«minimum_high» - a .«minimum_low») s (a .«time_maximum») (omega arith) l in
+  pub need-fits : s < a .«time_maximum» → a .«minimum_low» < 2 ^ 32 → a .«minimum_high» < 2 ^ 32 → a .«minimum_low» + up < 2 ^ 32
+  need-fits l h k =
+      let u = up-most (a .«minimum_high» - a .«minimum_low») s (a .«time_maximum») (omega arith) (omega arith) in
       let w : up ≡ upBy ((a .«minimum_high» - a .«minimum_low») * s) (a .«time_maximum») = rw (g, f, e) in
       omega arith

@@ -1,10 +1,11 @@
 // The one door between windows: nothing else makes a window, and all that hangs on the cause stands here.
 ghost use mathlib.Core.Path.{_≡_};
-ghost use Prim.Native.Nat.{_≤_};
+ghost use Prim.Native.Nat.{min};
 ghost use Rattle.rules.specs.Changes.{movedBy};
-ghost use Rattle.rules.specs.Door.{restarts, carriedBy, timeInD, needBy, needIn, into, stays, going};
+ghost use Rattle.rules.specs.Door.{restarts, carriedBy, needBy, needIn, into, stays, going};
 use crate::Cause;
 use crate::changes::moved;
+use crate::need::full_need;
 use crate::need::need_after;
 use record::Attributes;
 use record::State;
@@ -43,27 +44,18 @@ pub(crate) fn carried_over(c: Cause, excess: u64) -> u64
     }
 }
 
-fn time_in_d(a: Attributes, s: State) -> u32
-    ensures { λ r. ⌜ (r ≡ timeInD a s) × (r ≤ a .«time_maximum») ⌝ }
-{
-    let n = s.spent.time;
-    let most = a.time_maximum;
-    if n < most { n } else { most }
-}
-
-// How long the N must last that a cause leads to.
-fn need_by(c: Cause, a: Attributes, s: u32) -> u32
-    requires { ⌜ s ≤ a .«time_maximum» ⌝ }
-    ensures { λ r. ⌜ r ≡ needBy c a s ⌝ }
+// How long the N must last that a cause leads to, after n ms in D.
+fn need_by(c: Cause, a: Attributes, n: u32) -> u32
+    ensures { λ r. ⌜ r ≡ needBy c a (min n (a .«time_maximum»)) ⌝ }
 {
     match c {
         Cause::Enable => a.minimum_high,
         Cause::Disable => 0,
         Cause::SelectD => 0,
-        Cause::SelectN => need_after(a, s),
-        Cause::Excursion => need_after(a, s),
-        Cause::Exceeded => need_after(a, s),
-        Cause::TimeUp => need_after(a, a.time_maximum),
+        Cause::SelectN => need_after(a, n),
+        Cause::Excursion => need_after(a, n),
+        Cause::Exceeded => need_after(a, n),
+        Cause::TimeUp => full_need(a),
     }
 }
 
@@ -74,7 +66,7 @@ fn need_in(w: Window, c: Cause, a: Attributes, s: State) -> u32
     match w {
         Window::Off => 0,
         Window::D => 0,
-        Window::N => need_by(c, a, time_in_d(a, s)),
+        Window::N => need_by(c, a, s.spent.time),
     }
 }
 
@@ -113,5 +105,9 @@ pub fn go(c: Cause, a: Attributes, s: State) -> State
     ensures { λ r. ⌜ r ≡ going c a s ⌝ }
 {
     let v = s.window;
-    go_from(v, c, a, s)
+    match v {
+        Window::Off => go_from(Window::Off, c, a, s),
+        Window::D => go_from(Window::D, c, a, s),
+        Window::N => go_from(Window::N, c, a, s),
+    }
 }

@@ -6,8 +6,8 @@ mod need;
 ghost use mathlib.Core.Path.{_≡_};
 ghost use Prim.Native.Nat.{_+_};
 ghost use Rattle.record.specs.declared.Window.{Window};
-ghost use Rattle.rules.specs.Door.{going};
-ghost use Rattle.rules.specs.Rules.{noting, still, onlyInD, causeOfMode, configure, isEarly, onEntering, selecting, isOver, causeOver, recovering, leaving, charge, readEvent, writeEvent, excursionEvent, mediaRule, tick, clearingRead};
+ghost use Rattle.rules.specs.Door.{carriedBy, going};
+ghost use Rattle.rules.specs.Rules.{noting, still, onlyInD, causeOfMode, configure, isEarly, onEntering, selecting, isOver, recovering, leaving, charge, readEvent, writeEvent, excursionEvent, mediaRule, tick, clearingRead};
 use crate::changes::moved;
 use crate::door::carried_over;
 use crate::door::go;
@@ -143,16 +143,6 @@ fn is_over(q: Quantity, most: u64, n: u64) -> bool
     }
 }
 
-fn cause_over(q: Quantity) -> Cause
-    ensures { λ r. ⌜ r ≡ causeOver q ⌝ }
-{
-    match q {
-        Quantity::Reads => Cause::Exceeded,
-        Quantity::Writes => Cause::Exceeded,
-        Quantity::Time => Cause::TimeUp,
-    }
-}
-
 // t ms more of N time, up to the need.
 fn recover(s: State, t: u64) -> State
     ensures { λ r. ⌜ r ≡ recovering t s ⌝ }
@@ -165,17 +155,26 @@ fn recover(s: State, t: u64) -> State
     r
 }
 
-// Out of D with n of a quantity: through the door, and what the cause carries over.
+// Out of D by a cause: through the door, and what of an excess it carries over.
+fn leave_by(c: Cause, a: Attributes, s: State, excess: u64) -> State
+    requires { ⌜ s .window ≡ Window.D ⌝ }
+    ensures { λ r. ⌜ r ≡ recovering (carriedBy c excess) (going c a s) ⌝ }
+{
+    recover(go_from(Window::D, c, a, s), carried_over(c, excess))
+}
+
+// Out of D with n of a quantity. That each cause stands in the code lets the compiler make only its own need.
 fn leave_d(a: Attributes, s: State, q: Quantity, n: u64) -> State
     requires { ⌜ s .window ≡ Window.D ⌝ }
     ensures { λ r. ⌜ r ≡ leaving q n a s ⌝ }
 {
     let most = limit_of(a, q) as u64;
-    let c = cause_over(q);
-    recover(
-        go_from(Window::D, c, a, s),
-        carried_over(c, floored(n, most)),
-    )
+    let excess = floored(n, most);
+    match q {
+        Quantity::Reads => leave_by(Cause::Exceeded, a, s, excess),
+        Quantity::Writes => leave_by(Cause::Exceeded, a, s, excess),
+        Quantity::Time => leave_by(Cause::TimeUp, a, s, excess),
+    }
 }
 
 fn charge_by(a: Attributes, s: State, q: Quantity, k: u32) -> Effect

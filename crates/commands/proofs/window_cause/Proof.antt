@@ -6,5 +6,6 @@ pub window-cause-spec : {M : Type 1} → statement M
 window-cause-spec =
     tie.close
     (tie.spec
-    (λ c κs. search needs) (λ c κs. search needs)
-    (λ c. simp (c .cause-by .ensures, c .before .window-value .ensures)))
+    (λ c κs. search needs)
+    (λ c κs. search needs)
+    (λ c. simp (c .cause-by .ensures, c .before .selects-d .ensures)))

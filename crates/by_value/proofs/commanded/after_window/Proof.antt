@@ -1,8 +1,9 @@
 use mathlib.Core.Path.{ap, _∙_}
+use mathlib.Core.Bool.{Bool}
 use borrow.Author.Needs.{needs}
 use Rattle.record.specs.declared.Effect.{Effect}
 use Rattle.record.specs.Event.{settled}
-use Rattle.rules.specs.declared.Cause.{Cause}
+use Rattle.commands.specs.Commands.{causeBy}
 use Rattle.rules.specs.Rules.{selecting}
 use Rattle.by_value.proofs.commanded.after_window.Statement.{statement}
 use Rattle.by_value.proofs.commanded.after_window.Tie as tie
@@ -16,4 +17,4 @@ after-window-spec =
     let w = c .before .before in
     let r = w .before .before .before .args .r in
     c .settle .ensures
-    ∙ ap (λ (e : Effect). settled r e) (c .before .go-to-selected .ensures ∙ ap (λ (k : Cause). selecting k (r .attributes) (r .state)) (w .window-cause .ensures))))
+    ∙ ap (λ (e : Effect). settled r e) (c .before .select-by .ensures ∙ ap (λ (d : Bool). selecting (causeBy d) (r .attributes) (r .state)) (w .selects-d .ensures))))

@@ -15,4 +15,4 @@ need-by-spec =
     (λ c. simp (c .need-after .ensures, c .before .enum-told4 .given .1))
     (λ c. simp (c .need-after2 .ensures, c .before .enum-told5 .given .1))
     (λ c. simp (c .need-after3 .ensures, c .before .enum-told6 .given .1))
-    (λ c. simp (c .need-after4 .ensures, c .before .enum-told7 .given .1)))
+    (λ c. simp (c .full-need .ensures, c .before .enum-told7 .given .1)))

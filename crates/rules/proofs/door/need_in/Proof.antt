@@ -6,7 +6,7 @@ pub need-in-spec : {M : Type 1} → statement M
 need-in-spec =
     tie.close
     (tie.spec
-    (λ c. search needs) (λ c. search needs) (λ c. search needs) (λ c κs. search needs) (λ c κs. search needs)
+    (λ c. search needs) (λ c. search needs) (λ c. search needs) (λ c κs. search needs)
     (λ c. simp (c .enum-told .given .1))
     (λ c. simp (c .enum-told2 .given .1))
-    (λ c. simp (c .need-by .ensures, c .before .time-in-d .ensures .0, c .before .before .enum-told3 .given .1)))
+    (λ c. simp (c .need-by .ensures, c .before .enum-told3 .given .1)))
