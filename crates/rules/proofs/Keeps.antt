@@ -145,13 +145,13 @@ unfolding leaving
 leaving-keeps q n a s e h l = recovering-keeps _ a (going (causeOver q) a s) (into-n q a s e) (door-keeps (causeOver q) a s h l)
 
 -- what a legal state in D is
-record InD (a : Attributes) (s : State) : Type 0 where
+pub record InD (a : Attributes) (s : State) : Type 0 where
   reads : leb (s .spent .reads) (a .«reads_typical») ≡ true
   writes : leb (s .spent .writes) (a .«writes_typical») ≡ true
-  time : ltb (s .spent .time) (a .«time_maximum») ≡ true
+  pub time : ltb (s .spent .time) (a .«time_maximum») ≡ true
   none : noneRecovered (s .recovery) ≡ true
 
-in-d : (a : Attributes) (s : State) → s .window ≡ D → legalState a s ≡ true → InD a s
+pub in-d : (a : Attributes) (s : State) → s .window ≡ D → legalState a s ≡ true → InD a s
 in-d a s e l =
     let m : withinLimits a (s .spent) && noneRecovered (s .recovery) ≡ true = rw e at l in
     let p = both (withinLimits a (s .spent)) _ m in

@@ -1,12 +1,11 @@
 -- The laws of the door.
 use mathlib.Core.Path.{_≡_, refl, ap}
 use Prim.Native.Nat.{ℕ, _+_, _-_, min}
-use mathlib.Core.Bool.{Bool, true, false, not, _&&_}
+use mathlib.Core.Bool.{Bool, true, false, not}
 use native.Mathlib.Omega.{arith}
-use lib.Dec.{leb}
 use borrow.Author.Tests.{ltb-true}
 use Rattle.octets.specs.Choice.{if_then_else_}
-use Rattle.octets.proofs.JoinedTests.{and-left, and-right}
+use Rattle.octets.proofs.JoinedTests.{and-left}
 use Rattle.record.specs.declared.Attributes.{Attributes}
 use Rattle.record.specs.declared.Window.{Window}
 use Rattle.record.specs.declared.Window.the-variants.{Off, D, N}
@@ -14,7 +13,7 @@ use Rattle.record.specs.declared.Quantity.the-variants.{Reads, Writes, Time}
 use Rattle.record.specs.declared.State.{State}
 use Rattle.record.specs.Parts.{recovers}
 use Rattle.record.specs.Windows.{sameWindow}
-use Rattle.record.specs.Legal.{withinLimits, noneRecovered, legalState}
+use Rattle.record.specs.Legal.{legalState}
 use Rattle.rules.specs.declared.Cause.the-variants.{Enable}
 use Rattle.rules.specs.declared.Media.{Media}
 use Rattle.rules.specs.declared.Media.the-variants as media
@@ -22,6 +21,7 @@ use Rattle.rules.specs.Changes.{movedBy}
 use Rattle.rules.specs.Door.{restarts, timeInD, into, stays, going, Leads, StartsAnew, HeldStays, EnablingNeedsHigh, LeavingNeeds, TimeUpNeedsHigh}
 use Rattle.rules.specs.Rules.{mediaRule, leaving, CarriesNone, TimeUpRecovers, NeedStays}
 use Rattle.rules.proofs.Needs.{need-ends}
+use Rattle.rules.proofs.Keeps.{in-d}
 
 -- windows of one number are one
 same-one : (v w : Window) → sameWindow v w ≡ true → w ≡ v
@@ -65,9 +65,7 @@ enabling-needs-high a s = enabling (s .window) a s refl
 -- a legal set is in D for less than maximum
 time-below : (a : Attributes) (s : State) → s .window ≡ D → legalState a s ≡ true → timeInD a s ≡ s .spent .time
 time-below a s e l =
-    let m : withinLimits a (s .spent) && noneRecovered (s .recovery) ≡ true = rw e at l in
-    let p = and-left (withinLimits a (s .spent)) (noneRecovered (s .recovery)) m in
-    let t = ltb-true (s .spent .time) (a .«time_maximum») (and-right (leb (s .spent .reads) (a .«reads_typical») && leb (s .spent .writes) (a .«writes_typical»)) _ p) in
+    let t = ltb-true (s .spent .time) (a .«time_maximum») (in-d a s e l .time) in
     omega arith
 
 pub leaving-needs : LeavingNeeds

@@ -8,7 +8,7 @@ use borrow.Author.Tests.{leb-true}
 use Rattle.octets.proofs.JoinedTests.{and-left, and-right}
 use Rattle.record.specs.declared.Attributes.{Attributes}
 use Rattle.record.specs.Legal.{legalAttributes}
-use Rattle.rules.specs.Need.{upBy, needAfter, productMaximum, NeedWithin, NeedRises, NeedEnds, NeedRounded}
+use Rattle.rules.specs.Need.{upBy, needAfter, NeedWithin, NeedRises, NeedEnds, NeedRounded}
 
 -- ---- what of a legal set's numbers is used
 
@@ -83,9 +83,9 @@ need-rounded a s h =
 
 -- ---- for the code
 
--- a product of two numbers of 32 bits
-pub product-fits : (x s : ℕ) → x < 2 ^ 32 → s < 2 ^ 32 → x * s ≤ productMaximum
-product-fits x s h k =
+-- a product of two numbers of 32 bits, and one more
+pub product-fits : (x s y : ℕ) → x < 2 ^ 32 → s < 2 ^ 32 → y < 2 ^ 32 → x * s + y < 2 ^ 64
+product-fits x s y h k l =
     let p : x * s ≤ 4294967295 * 4294967295 = mul-le-mul {n₂ = 4294967295} {m₂ = 4294967295} (omega arith) (omega arith) in
     omega arith
 

@@ -14,10 +14,6 @@ upBy x y = (x + (y - 1)) / y
 unfoldable pub needAfter : Attributes → ℕ → ℕ
 needAfter a s = a .«minimum_low» + upBy ((a .«minimum_high» - a .«minimum_low») * s) (a .«time_maximum»)
 
--- for the code: the largest product of two numbers of 32 bits, which leaves room in 64 for one of them more
-abbrev pub productMaximum : ℕ
-productMaximum = 18446744065119617025
-
 -- ---- Laws, of every legal set, proved under their names, in lower case and with dashes, in proofs/Needs.antt.
 
 -- the need lies between low and high, for every s up to maximum

@@ -1,20 +1,20 @@
-// How long N must last after a window. All numbers have 32 bits, so that nothing here wraps in 64, whatever the record.
+// How long N must last after a window. All numbers have 32 bits, and a product of two leaves room in 64 for one more: so nothing here
+// wraps, whatever the record.
 ghost use mathlib.Core.Path.{_≡_};
-ghost use Prim.Native.Nat.{_*_, _^_, _≤_, _<_, min};
-ghost use Rattle.rules.specs.Need.{upBy, needAfter, productMaximum};
+ghost use Prim.Native.Nat.{_+_, _*_, _^_, _<_, min};
+ghost use Rattle.rules.specs.Need.{upBy, needAfter};
 use record::Attributes;
 use record::quantities::floored;
 
-// A product of two such numbers leaves room for one of them more, which `rounded_up` adds.
 fn product(x: u64, s: u32) -> u64
     requires { ⌜ x < 2 ^ 32 ⌝ }
-    ensures { λ r. ⌜ (r ≡ x * s) × (r ≤ productMaximum) ⌝ }
+    ensures { λ r. ⌜ r ≡ x * s ⌝ }
 {
     x * (s as u64)
 }
 
 fn rounded_up(x: u64, most: u32) -> u64
-    requires { ⌜ (x ≤ productMaximum) × (0 < most) ⌝ }
+    requires { ⌜ (x + most < 2 ^ 64) × (0 < most) ⌝ }
     ensures { λ r. ⌜ r ≡ upBy x most ⌝ }
 {
     (x + ((most - 1) as u64)) / (most as u64)

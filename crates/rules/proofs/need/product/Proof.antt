@@ -8,5 +8,5 @@ pub product-spec : {M : Type 1} → statement M
 product-spec =
     tie.close
     (tie.spec
-    (λ c. let l = product-fits (c .args .x) (c .args .s) (c .pre) (search needs) in record { fits = omega arith })
-    (λ c. (search needs, product-fits (c .args .x) (c .args .s) (c .pre) (search needs))))
+    (λ c. record { fits = omega (arith, product-fits (c .args .x) (c .args .s) 0 (c .pre) (search needs) (omega arith)) })
+    (λ c. search needs))
