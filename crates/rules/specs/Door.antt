@@ -76,11 +76,14 @@ going c a s = if stays c (s .window) then s else into (movedBy (s .window) c) c 
 abbrev pub Leads : Type 0
 Leads = (c : Cause) (a : Attributes) (s : State) → going c a s .window ≡ movedBy (s .window) c
 
--- a set that does not stay has another window's start before it: nothing spent, no time in N, its configuration as it was
+-- a set that does not stay has another window's start before it: nothing spent, no time in N, that window's need, which is none outside
+-- N, and its configuration as it was
 abbrev pub StartsAnew : Type 0
 StartsAnew =
     (c : Cause) (a : Attributes) (s : State) → stays c (s .window) ≡ false
-    → (going c a s .spent ≡ nothingSpent) × (going c a s .recovery .time ≡ 0) × (going c a s .config ≡ s .config)
+    → (going c a s .spent ≡ nothingSpent)
+    × (going c a s .recovery ≡ recovers 0 (needIn (movedBy (s .window) c) c a s))
+    × (going c a s .config ≡ s .config)
 
 -- "Selecting the window already held succeeds and changes nothing: no refill, no restart."
 abbrev pub HeldStays : Type 0
