@@ -9,7 +9,7 @@ use replies::numbers::{BAD_TABLE, SUCCESS};
 use rules::Media;
 
 // A record after an event, and the status number.
-#[derive(Drop)]
+#[derive(Clone, Copy)]
 pub struct Charged {
     pub record: Record,
     pub status: u16,

@@ -1,6 +1,6 @@
 -- The desk told at an item's end, after the records that the item changed were stored: rows leave it alone, so it is told of its own words.
 use mathlib.Core.Path.{◌≡◌, sym, ap, ◌∙◌}
-use mathlib.Core.Bool.{Bool, false, ◌||◌, or_false, or_assoc}
+use mathlib.Core.Bool.{Bool, false, ◌||◌, or-false, or_assoc}
 use mathlib.Core.List.{List, map}
 use Prim.Native.Nat.{ℕ, suc, ◌+◌, ◌-◌, ◌≤◌, ◌<◌}
 use native.Mathlib.Omega.{arith}
@@ -66,7 +66,7 @@ pub listing_start : (f : Record → Record) (ws : List ℕ) (n : ℕ) → n ≡ 
 listing_start f ws n e = rw (later_all ws n e)
 
 pub listing_end : (f : Record → Record) (ws : List ℕ) (n i : ℕ) (new goal : Bool) → listing f ws n i new ≡ goal → n ≤ i → new ≡ goal
-listing_end f ws n i new goal inv h = sym (or_false new) ∙ (rw (later_none ws n i h) at inv)
+listing_end f ws n i new goal inv h = sym (or-false new) ∙ (rw (later_none ws n i h) at inv)
 
 -- the rows after a slot whose record was stored
 later_stays : (ws : List ℕ) (n i : ℕ) (x : Record) → later (put ws i (words_of x)) n (i + 1) ≡ later ws n (i + 1)

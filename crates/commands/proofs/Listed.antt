@@ -1,6 +1,6 @@
 -- The table of commands read by opcode, as the code reads it: which kind a command is, and whether it is listed.
 use mathlib.Core.Path.{◌≡◌, refl, sym, subst, ◌∙◌}
-use mathlib.Core.Bool.{Bool, true, false, ◌&&◌, ◌||◌, or_false}
+use mathlib.Core.Bool.{Bool, true, false, ◌&&◌, ◌||◌, or-false}
 use mathlib.Core.List.{[], ◌∷◌}
 use Prim.Native.Nat.{ℕ}
 use borrow.Author.Tests.{eqb-true, eq-eqb, ne_eqb}
@@ -94,18 +94,18 @@ of_set_lem : (n : ℕ) (a b : Bool) → eqb n notices_fid ≡ a → eqb n config
 unfolding kind_by
 of_set_lem n true b f e = record { known = rw f; listed = rw f (sym f) }
 of_set_lem n false true f e = record { known = rw (f, e); listed = rw (f, e) (sym e) }
-of_set_lem n false false f e = record { known = rw (f, e); listed = rw (f, e) (or_false _) }
+of_set_lem n false false f e = record { known = rw (f, e); listed = rw (f, e) (or-false _) }
 
 of_get : (n : ℕ) (a b : Bool) → eqb n notices_fid ≡ a → eqb n config_fid ≡ b → Listed get_opcode n
 unfolding kind_by
 of_get n true b f e = record { known = rw f; listed = rw f (sym f) }
 of_get n false true f e = record { known = rw (f, e); listed = rw (f, e) (sym e) }
-of_get n false false f e = record { known = rw (f, e); listed = rw (f, e) (or_false _) }
+of_get n false false f e = record { known = rw (f, e); listed = rw (f, e) (or-false _) }
 
 of_log : (n : ℕ) (b : Bool) → eqb n latency_page_no ≡ b → Listed log_opcode n
 unfolding kind_by
 of_log n true e = record { known = rw e; listed = rw e (sym e) }
-of_log n false e = record { known = rw e; listed = rw e (or_false _) }
+of_log n false e = record { known = rw e; listed = rw e (or-false _) }
 
 of_request : (n : ℕ) → Listed request_opcode n
 unfolding kind_by
@@ -113,7 +113,7 @@ of_request n = record { known = refl; listed = refl }
 
 of_identify : (n : ℕ) → Listed identify_opcode n
 unfolding kind_by
-of_identify n = record { known = refl; listed = or_false _ }
+of_identify n = record { known = refl; listed = or-false _ }
 
 of_none : (op n : ℕ) → eqb op set_opcode ≡ false → eqb op get_opcode ≡ false → eqb op log_opcode ≡ false → eqb op request_opcode ≡ false → eqb op identify_opcode ≡ false → Listed op n
 unfolding kind_by

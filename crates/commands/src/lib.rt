@@ -10,7 +10,7 @@ use record::SetId;
 use rules::Cause;
 
 // The dwords that are looked at, and whether the command is of 64 bytes.
-#[derive(Drop)]
+#[derive(Clone, Copy)]
 pub struct Command {
     pub whole: bool,
     pub cdw0: u32,
@@ -22,7 +22,7 @@ pub struct Command {
 
 // The commands: Set and Get Features 0Bh (notices), 13h (config) and 14h (window), Get Log Page 0Ah and 0Bh, Asynchronous Event
 // Request, Identify 04h.
-#[derive(Drop)]
+#[derive(Clone, Copy)]
 pub enum Kind {
     SetNotices,
     SetConfig,
@@ -37,7 +37,7 @@ pub enum Kind {
 }
 
 // Whom a command names: no set, or the one in CDW11 15:0 of a feature command or in 31:16 of a log read.
-#[derive(Drop)]
+#[derive(Clone, Copy)]
 pub enum Whom {
     NoSet,
     FeatureSet,
@@ -45,7 +45,7 @@ pub enum Whom {
 }
 
 // A row of the table of commands.
-#[derive(Drop)]
+#[derive(Clone, Copy)]
 pub struct Shape {
     pub opcode: u32,
     // Whether it has a FID, CNS or page, and which.

@@ -5,7 +5,7 @@ use mathlib.Core.List.{List, [], ◌∷◌, ◌++◌, append-nil}
 use mathlib.Core.Logic.{◌⊎◌, inl, inr, ⊎_elim}
 use Prim.Native.Nat.{ℕ, ◌≤◌}
 use native.Mathlib.Omega.{arith}
-use borrow.Author.Tests.{leb-true, le-leb, not_true}
+use borrow.Author.Tests.{leb-true, le-leb, not-true}
 use lib.Dec.{leb}
 use lib.ListN.{length}
 use Rattle.octets.specs.Choice.{if◌then◌else◌}
@@ -54,7 +54,7 @@ pub few : (d : Desk) → legal_desk d ≡ true → length d.waiting ≤ requests
 few d h = leb-true _ _ (fine d h).few
 
 pub unserved : (d : Desk) → legal_desk d ≡ true → d.flag && ready d ≡ false
-unserved d h = not_true _ (fine d h).unserved
+unserved d h = not-true _ (fine d h).unserved
 
 pub send_legal : (d : Desk) → length d.waiting ≤ requests_maximum → all_identifiers d.waiting ≡ true → legal_desk (send d).desk ≡ true
 send_legal d h k =

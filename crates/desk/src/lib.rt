@@ -17,7 +17,7 @@ pub const REQUESTS: u64 = 4;
 const IDENTIFIER: u64 = 0xFFFF;
 
 // A desk's words after an item, and the notice that goes beside its answer.
-#[derive(Drop)]
+#[derive(Clone, Copy)]
 pub struct Settled {
     pub words: [u64; DESK],
     pub notice: Notice,

@@ -1,5 +1,7 @@
 // Numbers as little-endian bytes, pages made of fields, parts of pages and runs of words.
 // Nothing here knows of the card.
+#![tactic(auto)]
+
 pub mod casts;
 pub mod numbers;
 pub mod words;
@@ -29,7 +31,7 @@ pub fn put(buf: &mut [u8], at: usize, width: usize, v: u64)
 }
 
 // Where a number lies on a page, and how many bytes it takes.
-#[derive(Drop)]
+#[derive(Clone, Copy)]
 pub struct Place {
     pub at: usize,
     pub width: usize,

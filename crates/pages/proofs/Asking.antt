@@ -5,7 +5,7 @@ use mathlib.Core.List.{List, [], ◌∷◌, ◌++◌, map, map-append, append-ni
 use mathlib.Core.Logic.{inr}
 use Prim.Native.Nat.{ℕ, zero, suc, ◌+◌, ◌*◌, ◌-◌, ◌≤◌, ◌<◌}
 use native.Mathlib.Omega.{arith}
-use borrow.Author.Tests.{leb-true, leb-false, le-leb, lt-leb, ltb-true, ltb-false, eqb-true, eqb-false, not_true}
+use borrow.Author.Tests.{leb-true, leb-false, le-leb, lt-leb, ltb-true, ltb-false, eqb-true, eqb-false, not-true}
 use lib.Dec.{leb, ltb, eqb}
 use lib.ListN.{length, get_or, take, drop, replicate, length-take, length-drop, length-replicate, take-append-drop}
 use lib.Seq.{sets, length-sets, take_all, get_or-take}
@@ -280,7 +280,7 @@ module _ (all : List Attributes) (o : Ordered 0 all) where
     read = rw (eqb-true a.from from tests.0) at r
 
     full : identify_entries ≤ length (shown from all)
-    full = not_last all from o a.answer read (not_true _ tests.1)
+    full = not_last all from o a.answer read (not-true _ tests.1)
 
     next : shown (next_in a.answer) all ≡ drop identify_entries (shown from all)
     next = next_is all from o a.answer read full

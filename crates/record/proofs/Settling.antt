@@ -1,6 +1,6 @@
 -- Settling keeps "listed only if some event bit is set", whatever the effect.
 use mathlib.Core.Path.{◌≡◌, refl}
-use mathlib.Core.Bool.{Bool, true, false, not, ◌&&◌, ◌||◌, or_true}
+use mathlib.Core.Bool.{Bool, true, false, not, ◌&&◌, ◌||◌, or-true}
 use Rattle.octets.proofs.JoinedTests.{and_left}
 use Rattle.record.specs.declared.Events.{Events}
 use Rattle.record.specs.declared.Notes.{Notes}
@@ -11,7 +11,7 @@ use Rattle.record.specs.Legal.{legal_notes}
 
 or_more : (a b a' b' : Bool) → (a ≡ true → a' ≡ true) → (b ≡ true → b' ≡ true) → a || b ≡ true → a' || b' ≡ true
 or_more true b a' b' f g h = rw (f refl)
-or_more false b a' b' f g h = rw (g h) (or_true a')
+or_more false b a' b' f g h = rw (g h) (or-true a')
 
 -- each event of the first is one of the second
 record Within (e f : Events) : Type 0 where
@@ -32,7 +32,7 @@ some_within e f w =
     w.excursion
 
 new_one : (k o n x : Bool) → n && x ≡ true → k && o || n ≡ true
-new_one k o n x h = rw (and_left n x h) (or_true (k && o))
+new_one k o n x h = rw (and_left n x h) (or-true (k && o))
 
 old_one : (o n : Bool) → o ≡ true → true && o || n ≡ true
 old_one o n h = rw h
@@ -65,7 +65,7 @@ some_old old new =
 marked :
     (kept listed now : Bool) (old new on : Events) → any_enabled new on ≡ now → not listed || some_event old ≡ true
     → not (kept && listed || now) || some_event (joined kept old new) ≡ true
-marked kept listed true old new on e h = rw (some_new kept old new on e) (or_true (not (kept && listed || true)))
+marked kept listed true old new on e h = rw (some_new kept old new on e) (or-true (not (kept && listed || true)))
 marked true true false old new on e h = some_old old new h
 marked true false false old new on e h = refl
 marked false listed false old new on e h = refl

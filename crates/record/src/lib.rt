@@ -1,5 +1,7 @@
 // One NVM Set's record, by value: its parts, legality, estimates and events.
 // What an item does to a set is an effect; `event::settle` alone writes events and the listed mark.
+#![tactic(auto)]
+
 pub mod event;
 pub mod legal;
 pub mod parts;
@@ -7,17 +9,17 @@ pub mod quantities;
 pub mod windows;
 
 // Set identifiers, slot numbers and endurance group numbers: three kinds that can't be mixed.
-#[derive(Drop)]
+#[derive(Clone, Copy)]
 pub struct SetId(pub u16);
 
-#[derive(Drop)]
+#[derive(Clone, Copy)]
 pub struct Slot(pub usize);
 
-#[derive(Drop)]
+#[derive(Clone, Copy)]
 pub struct Group(pub u16);
 
 // A capacity of 16 bytes, as its lower and upper 64 bits.
-#[derive(Drop)]
+#[derive(Clone, Copy)]
 pub struct Capacity {
     pub low: u64,
     pub high: u64,
@@ -25,7 +27,7 @@ pub struct Capacity {
 
 // Static: no item changes it. Times are in milliseconds. Typicals, times and counts are u32, as 01's ranges are, so that no sum of two of
 // them and no product wraps in 64 bits, whatever the record.
-#[derive(Drop)]
+#[derive(Clone, Copy)]
 pub struct Attributes {
     pub id: SetId,
     pub group: Group,
@@ -41,7 +43,7 @@ pub struct Attributes {
 }
 
 // Off is the mode off: a set that is on is in D, the deterministic window, or in N, the non-deterministic one.
-#[derive(Drop)]
+#[derive(Clone, Copy)]
 pub enum Window {
     Off,
     D,
@@ -49,7 +51,7 @@ pub enum Window {
 }
 
 // What a set uses up in D: each has a limit, a count, a threshold and a warning.
-#[derive(Drop)]
+#[derive(Clone, Copy)]
 pub enum Quantity {
     Reads,
     Writes,
@@ -57,7 +59,7 @@ pub enum Quantity {
 }
 
 // The five event bits, in ENEV as in the event type: 0, 1 and 2 for the warnings, 14 for exceeded, 15 for excursion.
-#[derive(Drop)]
+#[derive(Clone, Copy)]
 pub struct Events {
     pub reads: bool,
     pub writes: bool,
@@ -66,7 +68,7 @@ pub struct Events {
     pub excursion: bool,
 }
 
-#[derive(Drop)]
+#[derive(Clone, Copy)]
 pub struct Thresholds {
     pub reads: u64,
     pub writes: u64,
@@ -74,14 +76,14 @@ pub struct Thresholds {
 }
 
 // What Set Features 13h stores beside the mode: ENEV and the three thresholds.
-#[derive(Drop)]
+#[derive(Clone, Copy)]
 pub struct Config {
     pub enabled: Events,
     pub thresholds: Thresholds,
 }
 
 // What is spent in D. All zero outside D.
-#[derive(Drop)]
+#[derive(Clone, Copy)]
 pub struct Spent {
     pub reads: u32,
     pub writes: u32,
@@ -89,14 +91,14 @@ pub struct Spent {
 }
 
 // What is recovered in N: the time in it, and the need, which it must reach before D may be selected. Both zero outside N.
-#[derive(Drop)]
+#[derive(Clone, Copy)]
 pub struct Recovery {
     pub time: u32,
     pub need: u32,
 }
 
 // What the rules read and change.
-#[derive(Drop)]
+#[derive(Clone, Copy)]
 pub struct State {
     pub window: Window,
     pub config: Config,
@@ -105,13 +107,13 @@ pub struct State {
 }
 
 // What the host is told. No rule reads it.
-#[derive(Drop)]
+#[derive(Clone, Copy)]
 pub struct Notes {
     pub events: Events,
     pub listed: bool,
 }
 
-#[derive(Drop)]
+#[derive(Clone, Copy)]
 pub struct Record {
     pub attributes: Attributes,
     pub state: State,
@@ -119,7 +121,7 @@ pub struct Record {
 }
 
 // What an item does to a set: the state after it, the events that happened, and whether it was a clearing read.
-#[derive(Drop)]
+#[derive(Clone, Copy)]
 pub struct Effect {
     pub state: State,
     pub happened: Events,

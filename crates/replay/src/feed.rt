@@ -2,7 +2,7 @@
 ghost use Rattle.std.specs.Prelude.{◌≡◌, ◌-◌, ◌≤◌, length, take, drop};
 ghost use Rattle.std.proofs.lemmas.List.Edits.{sets};
 
-#[derive(Drop)]
+#[derive(Clone, Copy)]
 pub struct Feed {
     // bytes that are there
     pub have: usize,

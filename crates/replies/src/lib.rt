@@ -1,4 +1,6 @@
 // What a command answers: the first row of a status table that holds refuses it; else data goes out, in one way.
+#![tactic(auto)]
+
 pub mod numbers;
 
 ghost use Rattle.std.specs.Prelude.{◌≡◌, ◌≤◌, length};
@@ -10,7 +12,7 @@ ghost use Rattle.replies.specs.declared.Notice.{Notice};
 use crate::numbers::{REQUEST_WAITS, SUCCESS};
 
 // What may go beside an answer: nothing, or a notice, which completes the waiting request with this identifier.
-#[derive(Drop)]
+#[derive(Clone, Copy)]
 pub enum Notice {
     Unsent,
     To(u16),
@@ -19,7 +21,7 @@ pub enum Notice {
 // Dword 0 of a notice: read log page 0Bh.
 pub const NOTICE: u32 = 0x000B0402;
 
-#[derive(Drop)]
+#[derive(Clone, Copy)]
 pub struct Reply {
     pub status: u16,
     pub dword: u32,

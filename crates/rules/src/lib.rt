@@ -17,7 +17,7 @@ use record::windows::same_window;
 use record::{Attributes, Config, Effect, Events, Quantity, State, Window};
 
 // What can change a set's window.
-#[derive(Drop)]
+#[derive(Clone, Copy)]
 pub enum Cause {
     Enable,
     Disable,
@@ -29,7 +29,7 @@ pub enum Cause {
 }
 
 // An entry of the table of window changes. Never: that cause does not arise in that window.
-#[derive(Drop)]
+#[derive(Clone, Copy)]
 pub enum Next {
     Never,
     Refuse,
@@ -39,7 +39,7 @@ pub enum Next {
 }
 
 // What the media layer reports of a set.
-#[derive(Drop)]
+#[derive(Clone, Copy)]
 pub enum Media {
     Reads(u16),
     Writes(u16),

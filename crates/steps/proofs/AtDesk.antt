@@ -1,6 +1,6 @@
 -- What each item does to the desk, and that a legal desk stays legal.
 use mathlib.Core.Path.{◌≡◌, refl, sym, ap, ◌∙◌}
-use mathlib.Core.Bool.{Bool, true, false, not, ◌&&◌, ◌||◌, or_false}
+use mathlib.Core.Bool.{Bool, true, false, not, ◌&&◌, ◌||◌, or-false}
 use mathlib.Core.List.{List, [], ◌∷◌, ◌++◌, append-nil}
 use mathlib.Core.Option.{some}
 use mathlib.Core.Logic.{◌⊎◌, ⊎_elim}
@@ -184,7 +184,7 @@ newly_self (r ∷ rs) = rw (new_self r) (newly_self rs)
 
 newly_at : (k : ℕ) (rs : List Record) (r x : Record) → nth k rs ≡ some r → newly rs (set rs k x) ≡ newly_listed r x
 newly_at k [] r x e = absurd (let z : ◌≡◌ {A = ℕ} 0 1 = cc in omega arith)
-newly_at zero (y ∷ rs) r x e = let q : y ≡ r = cc in rw (q, newly_self rs) (or_false _)
+newly_at zero (y ∷ rs) r x e = let q : y ≡ r = cc in rw (q, newly_self rs) (or-false _)
 newly_at (suc k) (y ∷ rs) r x e = rw (new_self y) (newly_at k rs r x e)
 
 -- one that names a set: what its slot's mark did

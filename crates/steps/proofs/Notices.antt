@@ -1,11 +1,11 @@
 -- 02, "Wake the host": what is promised of notices.
 use mathlib.Core.Path.{◌≡◌, refl, sym, ap, ◌∙◌}
-use mathlib.Core.Bool.{Bool, true, false, not, ◌&&◌, ◌||◌, or_false, false≢true}
+use mathlib.Core.Bool.{Bool, true, false, not, ◌&&◌, ◌||◌, or-false, false≢true}
 use mathlib.Core.List.{List, [], ◌∷◌, ◌++◌, append-nil, append_assoc}
 use mathlib.Core.Logic.{◌⊎◌, inl, inr, ⊎_elim}
 use Prim.Native.Nat.{ℕ, ◌≤◌}
 use native.Mathlib.Omega.{arith}
-use borrow.Author.Tests.{eqb-true, eq-eqb, not_true}
+use borrow.Author.Tests.{eqb-true, eq-eqb, not-true}
 use lib.Dec.{eqb}
 use lib.ListN.{length}
 use Rattle.octets.specs.Choice.{if◌then◌else◌}
@@ -214,7 +214,7 @@ moves c i =
     (λ e.
     let t = at_refused c i e in
     let l = lifts_refused c i e in
-    inr (record { notice = rw t; how = λ h. record { masked = rw (t, l); flag = rw (t, l, refused_lists c i h e) (sym (or_false _)) } }))
+    inr (record { notice = rw t; how = λ h. record { masked = rw (t, l); flag = rw (t, l, refused_lists c i h e) (sym (or-false _)) } }))
     (bool_cases (eqb (refusal_of c i) 0))
 
 not_sent : (id : ℕ) → Unsent ≡ To id → ⊥
@@ -239,7 +239,7 @@ held_else c i l e =
 -- what none_lifts says of the first item and of the rest
 module _ (c : Card) (i : Item) (is : List Item) (n : none_lifts c (i ∷ is) ≡ true) where
   first_not : lifts c i ≡ false
-  first_not = not_true _ (both (not (lifts c i)) _ n).0
+  first_not = not-true _ (both (not (lifts c i)) _ n).0
 
   rest_not : none_lifts (after c i) is ≡ true
   rest_not = (both (not (lifts c i)) _ n).1
@@ -390,7 +390,7 @@ run_on : (is : List Item) (c : Card) → none_turns c is ≡ true → (run c is)
 run_on [] c h = refl
 run_on (i ∷ is) c h =
     let b = both (not (turns_notices i && carried_out (answer c i).status)) _ h in
-    let g : turns_notices i && eqb (refusal_of c i) 0 ≡ false = rw (← number_tells c i) (not_true (turns_notices i && carried_out (answer c i).status) b.0) in
+    let g : turns_notices i && eqb (refusal_of c i) 0 ≡ false = rw (← number_tells c i) (not-true (turns_notices i && carried_out (answer c i).status) b.0) in
     run_on is (after c i) b.1 ∙ on_kept c i g
 
 turned_on : (c : Card) (bytes given : List ℕ) (room : ℕ) → kind_of (command_in bytes) ≡ SetNotices → refusal_of c (command bytes given room) ≡ 0

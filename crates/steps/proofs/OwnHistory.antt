@@ -1,12 +1,12 @@
 -- Demand 3. Of the items' meanings nothing is used but their shape.
 use mathlib.Core.Path.{◌≡◌, refl, sym, ap, ap₂, ◌∙◌}
-use mathlib.Core.Bool.{Bool, true, false, not, ◌&&◌, ◌||◌, or_false, false≢true}
+use mathlib.Core.Bool.{Bool, true, false, not, ◌&&◌, ◌||◌, or-false, false≢true}
 use mathlib.Core.List.{List, [], ◌∷◌, ◌++◌, map, map-map, append-nil, append_assoc}
 use mathlib.Core.Option.{some}
 use mathlib.Core.Logic.{◌⊎◌, ⊎_elim}
 use Prim.Native.Nat.{ℕ, ◌+◌, ◌≤◌, ◌<◌}
 use native.Mathlib.Omega.{arith}
-use borrow.Author.Tests.{eqb-true, eq-eqb, ne_eqb, not_true}
+use borrow.Author.Tests.{eqb-true, eq-eqb, ne_eqb, not-true}
 use lib.Dec.{eqb}
 use lib.ListN.{length, length-map}
 use Rattle.octets.specs.Choice.{if◌then◌else◌}
@@ -49,7 +49,7 @@ use Rattle.steps.proofs.AtDesk.{new_self, run_legal}
 owned_by : (m : Meaning) (c : Card) (id : ℕ) → names_by m id || to_all_by m && eqb (refusal_by m c) 0 ≡ concerns_by m (length c.sets) id
 owned_by (Nobody v) c id = refl
 owned_by (Everybody a) c id = refl
-owned_by (The a o) c id = or_false (eqb a id)
+owned_by (The a o) c id = or-false (eqb a id)
 
 owned : (c : Card) (id : ℕ) (i : Item) → owns c id i ≡ concerns (length c.sets) id i
 unfolding names to_all refusal_of concerns
@@ -254,7 +254,7 @@ unlost : (n : ℕ) (is : List Item) (r : Record) → r.notes.listed ≡ true →
 unlost n [] r l h = l
 unlost n (i ∷ is) r l h =
     let p = both (not (names (id_of r) i)) _ h in
-    unlost n is (touched n i r) (still_listed n i r l (not_true (names (id_of r) i) p.0)) (rw (keeps n i r) p.1)
+    unlost n is (touched n i r) (still_listed n i r l (not-true (names (id_of r) i) p.0)) (rw (keeps n i r) p.1)
 
 pub stays_listed : StaysListed
 stays_listed c is k r e l h = rw (run_sets is c, nth_map, nth_map, e) (ap some (unlost (length c.sets) is r l h))

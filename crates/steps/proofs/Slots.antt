@@ -1,6 +1,6 @@
 -- A refused item changes nothing; any other that names a set changes its slot and no other.
 use mathlib.Core.Path.{◌≡◌, refl, sym, ap, ◌∙◌}
-use mathlib.Core.Bool.{true, false, ◌&&◌, or_false}
+use mathlib.Core.Bool.{true, false, ◌&&◌, or-false}
 use mathlib.Core.List.{List, [], ◌∷◌, map}
 use mathlib.Core.Option.{some}
 use mathlib.Core.Logic.{◌⊎◌, ⊎_elim}
@@ -52,7 +52,7 @@ found p (suc k) (x ∷ rs) r h e =
 -- ---- a refusal
 
 settled_still : (r : Record) → settled r (still r.state) ≡ r
-settled_still r = simp or_false (rw (or_false r.notes.listed))
+settled_still r = simp or-false (rw (or-false r.notes.listed))
 
 still_by :
     (m : Meaning) (c : Card) (r : Record) → eqb (refusal_by m c) 0 ≡ false → concerns_by m (length c.sets) (id_of r) ≡ true

@@ -28,7 +28,7 @@ pub fn number(head: &[u8; HEAD], at: usize, width: usize) -> u64 {
 }
 
 // How many words and bytes follow a head.
-#[derive(Drop)]
+#[derive(Clone, Copy)]
 pub struct Sizes {
     pub table: usize,
     pub answer: usize,

@@ -24,14 +24,14 @@ pub const MAX_SETS: usize = 64;
 // at each look, and it is proved that the count does not fall below 0: so no search takes an eighth look.
 pub const LOOKS: usize = 7;
 
-#[derive(Drop)]
+#[derive(Clone, Copy)]
 pub enum Found {
     At(Slot),
     Nothing,
 }
 
 // What stands at an identifier: a table that is not legal, no such set, or its slot.
-#[derive(Drop)]
+#[derive(Clone, Copy)]
 pub enum Entry {
     Bad,
     Unknown,

@@ -5,7 +5,7 @@ pub mod pieces;
 mod text;
 
 // What stands next on the tape: a whole body, one that is not all read yet, one that is cut or of no known kind, or nothing more.
-#[derive(Drop)]
+#[derive(Clone, Copy)]
 pub enum Next {
     Whole,
     Short,
@@ -14,7 +14,7 @@ pub enum Next {
 }
 
 // Where a tape is: at its sets, at its items, or past its last line.
-#[derive(Drop)]
+#[derive(Clone, Copy)]
 pub enum Stage {
     Sets,
     Items,
@@ -22,7 +22,7 @@ pub enum Stage {
 }
 
 // How far a tape is, and what a call has done of it.
-#[derive(Drop)]
+#[derive(Clone, Copy)]
 pub struct Progress {
     pub stage: Stage,
     // sets read, or items done
