@@ -1,4 +1,6 @@
 // What a command's 64 bytes say, 01's commands as one table, and its status table. Nothing here knows of a table of sets.
+#![tactic(auto)]
+
 pub mod shapes;
 pub mod status_table;
 

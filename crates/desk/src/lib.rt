@@ -1,5 +1,7 @@
 // What the whole card keeps beside its sets, as the words that hold it: notices on, masked, the flag, how many requests wait, and
 // their identifiers, the oldest first. Nothing here knows of sets.
+#![tactic(auto)]
+
 ghost use Rattle.std.specs.Prelude.{◌≡◌, false, ◌<◌, eqb, get_or};
 ghost use Rattle.desk.specs.Desk.{requests_maximum};
 ghost use Rattle.desk.specs.Words.{servable, desk_legal};

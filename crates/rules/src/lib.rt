@@ -1,4 +1,6 @@
 // What each item does to one set. A rule sees attributes and state, never events or the listed mark, and answers an effect.
+#![tactic(auto)]
+
 pub mod changes;
 pub mod door;
 mod need;

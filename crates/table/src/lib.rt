@@ -1,5 +1,7 @@
 // The card's table in a lent slice of words: legality, the search for a set, one slot loaded and stored, and the listed
 // marks as one word. Words past the table are neither read nor written.
+#![tactic(auto)]
+
 pub mod layout;
 pub mod legal_words;
 

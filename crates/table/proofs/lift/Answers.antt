@@ -1,0 +1,10 @@
+use mathlib.Core.Path.{ap, ◌∙◌}
+use Prim.Native.Nat.{ℕ}
+use mathlib.Core.List.{List}
+use lib.Seq.{sets}
+use Rattle.table.specs.Card.{desk_start}
+use Rattle.table.proofs.Desks.{lifted_there}
+use Rattle.table.proofs.lift.Goals as goal
+
+pub returns : goal.returns
+returns c = lifted_there c.args.table.now c.requires _ _ c.desk_of.ensures (c.put_desk.ensures ∙ ap (λ (x : List ℕ). sets c.args.table.now desk_start x) c.lift-words.ensures)
