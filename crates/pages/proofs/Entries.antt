@@ -95,6 +95,7 @@ pub record Showing (page₀ : List ℕ) (from : ℕ) (all : List Attributes) (pa
 -- where there is room for one more, the first set and then the rest
 taken_first : (b : Bool) (a : Attributes) (others : List Attributes) (n : ℕ) → 0 < n
     → take n (shown_if b a others) ≡ shown_if b a [] ++ take (n - length (shown_if b a [])) others
+taken_first true a others zero h = elim h [ ]
 taken_first true a others (suc n) h = rw (suc-sub-suc n 0, sub-zero)
 taken_first false a others n h = rw sub-zero
 

@@ -1,4 +1,6 @@
 // What stands on bytes: set-up bodies, the data of feature 13h, log pages 0Ah and 0Bh, and Identify.
+#![tactic(auto)]
+
 pub mod aggregate;
 pub mod bodies;
 mod capacities;

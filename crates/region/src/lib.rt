@@ -1,5 +1,7 @@
 // The card's table where it lies, in a region of bytes that C lends: legality, the search for a set, one slot loaded and stored.
 // Each promises of the region's words what the function of that name in `table` promises of a slice of words.
+#![tactic(auto)]
+
 ghost use Rattle.std.specs.Prelude.{◌≡◌, false, ◌+◌, ◌*◌, ◌/◌, ◌<◌, ◌≤◌, length, get_or};
 ghost use Rattle.std.proofs.lemmas.List.Edits.{sets};
 ghost use Rattle.octets.specs.Words.{word_size};
