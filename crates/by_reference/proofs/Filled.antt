@@ -34,18 +34,18 @@ stored_from l vs a h =
     ap (λ (z : List ℕ). take a l ++ z) (joined ∙ sets-eq vs (drop a l) 0 (omega arith))
     ∙ rw (sets-eq vs l a h, zero-add, drop-drop (length vs) a l) (sym (append_assoc (take a l) vs (drop (a + length vs) l)))
 
-stored-page :
+stored_page :
     (l page r : List ℕ) (a n : ℕ) → length page ≡ n → a + n ≤ length l
     → r ≡ sets (take (length l - a) (drop a l)) 0 (padded page 0 n) → put_mid a (length l - a) l r ≡ sets l a page
-stored-page l page r a n e h er = rw (er, padded_whole page n e) (stored_from l page a (rw e h))
+stored_page l page r a n e h er = rw (er, padded_whole page n e) (stored_from l page a (rw e h))
 
 module _ (bytes : List ℕ) (i : ℕ) (a : Attributes) where
-  pub body-put :
+  pub body_put :
       (page r : List ℕ) → i < bodies bytes → page ≡ body a
       → r ≡ sets (take (length bytes - i * body_size) (drop (i * body_size) bytes)) 0 (padded page 0 body_size)
       → put_mid (i * body_size) (length bytes - i * body_size) bytes r ≡ with_body bytes i (body a)
-  body-put page r h e er =
-      stored-page bytes page r (i * body_size) body_size (ap length e ∙ body_length a) (omega arith) er
+  body_put page r h e er =
+      stored_page bytes page r (i * body_size) body_size (ap length e ∙ body_length a) (omega arith) er
       ∙ rw (e, lt-ltb i (bodies bytes) h)
 
   pub body_left : bodies bytes ≤ i → bytes ≡ with_body bytes i (body a)
@@ -127,10 +127,10 @@ module _ (list : List Attributes) (ws : List ℕ) (m : ℕ) (h : max_sets < m) w
   cut_list = cut_by (leb (length list) m) refl
 
 -- what the bytes hold after the last element is enough
-pub set-up-all :
+pub set_up_all :
     (room : ℕ) → max_sets < room / body_size → (list : List Attributes) (i : ℕ) (bytes : List ℕ) → Filled room list i bytes → length list ≤ i
     → (ws after : List ℕ) (r : ℕ) → SetUp (first_bodies bytes (length list)) ws after r → SetUp (bodies_of list) ws after r
-set-up-all room h list i bytes g over ws after r p =
+set_up_all room h list i bytes g over ws after r p =
     let last : i ≡ length list = omega (arith, g.within) in
     let same : bodies bytes ≡ room / body_size = ap (λ (n : ℕ). n / body_size) g.long in
     let whole : set_up (first_bodies bytes (length list)) ws ≡ set_up (bodies_of list) ws

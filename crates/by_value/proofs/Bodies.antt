@@ -72,10 +72,10 @@ rows_start ws bytes n = rw sub-zero
 pub rows_end : (ws bytes : List ℕ) (n i at : ℕ) → n ≤ i → rows_left ws bytes n i at ≡ ws
 rows_end ws bytes n i at h = rw (bodies_none bytes n i at h)
 
-pub rows-again :
+pub rows_again :
     (ws bytes : List ℕ) (n i at : ℕ) (goal : List ℕ) → rows_left ws bytes n i at ≡ goal → i < n → (a : Attributes) (r : Record) (vs : List ℕ)
     → a ≡ kept_of (attributes_in bytes at) → r ≡ new_record a → vs ≡ put ws i (words_of r) → rows_left vs bytes n (i + 1) (at + body_size) ≡ goal
-rows-again ws bytes n i at goal inv h a r vs ea er ev =
+rows_again ws bytes n i at goal inv h a r vs ea er ev =
     rw (ev, er, ea, add-one) (rw (bodies_more bytes n i at h, add-one) at inv)
 
 -- of bodies that are legal all is kept
@@ -101,10 +101,10 @@ pub headed_length : (bytes ws us : List ℕ) → us ≡ sets ws 0 (layout_number
 headed_length bytes ws us e = ap length e ∙ length-sets ws 0 (layout_number ∷ bodies bytes ∷ desk_words new_desk)
 
 -- the header and then the rows make it
-pub headed-rows :
+pub headed_rows :
     (bytes ws us vs : List ℕ) → legal_sets 0 (new_sets bytes) ≡ true → us ≡ sets ws 0 (layout_number ∷ bodies bytes ∷ desk_words new_desk)
     → vs ≡ written_rows us (map kept_record (attributes_from bytes 0 (bodies bytes))) → vs ≡ new_table bytes ws
 unfolding written new_sets
-headed-rows bytes ws us vs h eu ev =
+headed_rows bytes ws us vs h eu ev =
     ev ∙ ap (written_rows us) (kept_sets 0 (attributes_from bytes 0 (bodies bytes)) h)
     ∙ ap (λ (x : List ℕ). written_rows x (new_sets bytes)) (eu ∙ ap (sets ws 0) (new_header bytes))

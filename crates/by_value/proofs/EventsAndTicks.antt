@@ -36,8 +36,8 @@ use Rattle.steps.proofs.ItemShapes.{touched_own}
 use Rattle.replies.proofs.Answering.{refused_reply, waits_reply}
 use Rattle.steps.proofs.NamedItems.{meaning_media}
 use Rattle.steps.proofs.AtDesk.{told_all}
-use Rattle.steps.proofs.StepOnWords.{step_bad, step-legal, step-refused, step_unknown, step-done, here}
-use Rattle.by_value.proofs.Told.{told-put, told-rows}
+use Rattle.steps.proofs.StepOnWords.{step_bad, step_legal, step_refused, step_unknown, step_done, here}
+use Rattle.by_value.proofs.Told.{told_put, told_rows}
 
 -- ---- what an item answers that has no data: a refusal, or a success
 
@@ -69,14 +69,14 @@ module _ (ws : List ℕ) (id : ℕ) (m : Media) (e : Entry) (known : e ≡ enter
 
   module _ (s : Slot) (q : e ≡ Here s) where
     -- the record that was loaded, the record that the rule made of it, and the table that has it; then the desk is told
-    pub event-here :
+    pub event_here :
         (r y : Record) (us vs : List ℕ) (new : Bool) (n : Notice) (z : Reply) → r ≡ record_of (row ws s.0)
         → y ≡ settled r (media_rule m r.attributes r.state) → us ≡ put ws s.0 (words_of y) → new ≡ newly_listed r y
         → Tells us (settle new (desk_at us)) vs n → z ≡ done → x ≡ beside_of z n → Answered ws (item_of id m) [] x vs []
-    event-here r y us vs new n z er ey eu en t ez ex =
+    event_here r y us vs new n z er ey eu en t ez ex =
         let f = is_here ws id s (sym known ∙ q) in
-        let d = step-done ws (item_of id m) id (event (media_rule m)) (meaning_media id m) f.0 s.0 f.1 refl in
-        let h = rw (ey, er) at (told-put ws us vs new n t s.0 r y eu en) in
+        let d = step_done ws (item_of id m) id (event (media_rule m)) (meaning_media id m) f.0 s.0 f.1 refl in
+        let h = rw (ey, er) at (told_put ws us vs new n t s.0 r y eu en) in
         carried ws (item_of id m) [] vs n z x (rw d h.desk) (rw d) (rw d h.sent) ez ex
 
 -- ---- ticks
@@ -101,7 +101,7 @@ no_data t room (r ∷ rs) = no_data t room rs
 module _ (ws : List ℕ) (t : ℕ) (before : List ℕ) (x : Reply) (e : legal_table ws ≡ true) where
   pub tick_long : day_ms < t → x ≡ refusing tick_too_long → Answered ws (tick t (length before)) before x ws before
   unfolding refusal_of meaning
-  tick_long h ex = turned_down ws (tick t (length before)) before tick_too_long x (step-refused ws (tick t (length before)) tick_too_long e (rw (lt-ltb day_ms t h)) (λ z. omega arith)) ex
+  tick_long h ex = turned_down ws (tick t (length before)) before tick_too_long x (step_refused ws (tick t (length before)) tick_too_long e (rw (lt-ltb day_ms t h)) (λ z. omega arith)) ex
 
   tick_answer : t ≤ day_ms → answer (card_of ws) (tick t (length before)) ≡ granted 0 []
   unfolding answer meaning
@@ -126,9 +126,9 @@ module _ (ws : List ℕ) (t : ℕ) (before : List ℕ) (x : Reply) (e : legal_ta
     pub tick_done : (y : Reply) → y ≡ done → x ≡ beside_of y n → Answered ws (tick t (length before)) before x vs before
     tick_done y ey ex =
         let i = tick t (length before) in
-        let r = step-legal ws i e in
+        let r = step_legal ws i e in
         let many : length (after (card_of ws) i).sets ≡ count ws = simp length-map (length_records ws) in
-        let d = told-rows ws us vs new n told (records_of ws) (map (tick_one t) (records_of ws)) eu en in
+        let d = told_rows ws us vs new n told (records_of ws) (map (tick_one t) (records_of ws)) eu en in
         carried ws i before vs n y x
         (rw (r, header_stays ws (legal_known ws e) (after (card_of ws) i) many, tick_told, ticked_sets) d.desk)
         (rw r (tick_answer h))

@@ -28,7 +28,7 @@ use Rattle.steps.specs.Commanded.{named}
 use Rattle.steps.specs.Meanings.{meaning}
 use Rattle.steps.specs.Words.{Answered}
 use Rattle.by_value.specs.OnSet.{status_on, OnSet}
-use Rattle.steps.proofs.StepOnWords.{step_bad, step_unknown, step_late, step-done}
+use Rattle.steps.proofs.StepOnWords.{step_bad, step_unknown, step_late, step_done}
 use Rattle.replies.proofs.Answering.{refused_reply}
 
 -- a table that is not legal
@@ -42,9 +42,9 @@ module _ (ws : List ℕ) (k : Kind) (c : Command) (given before : List ℕ) (e :
   pub named_bad : (x : Reply) → e ≡ Bad → x ≡ refusing bad_table → Answered ws i before x ws before
   named_bad x q ex = answered_bad ws i before x (is_bad ws (named_by k c) (sym known ∙ q)) ex
 
-  pub named-unknown :
+  pub named_unknown :
       (x : Reply) (s : ℕ) → e ≡ Unknown → s ≡ first_of (early_lines c ++ line true unknown_number ∷ []) → x ≡ refusing s → Answered ws i before x ws before
-  named-unknown x s q es ex =
+  named_unknown x s q es ex =
       let f = is_unknown ws (named_by k c) (sym known ∙ q) in
       let d = step_unknown ws i (named_by k c) (named k c given (length before)) m f.0 f.1 (unknown_not_zero c) in
       record { table = rw d; reply = rw (d, ex, es) (refused_reply _ before); notice = rw (d, ex) }
@@ -57,7 +57,7 @@ module _ (ws : List ℕ) (k : Kind) (c : Command) (given before : List ℕ) (e :
     unfolding rec status_on
     by_status true t =
         let f = is_here ws (named_by k c) slot (sym known ∙ q) in
-        let d = step-done ws i (named_by k c) (named k c given (length before)) m f.0 slot.0 f.1 (eqb-true _ 0 t) in
+        let d = step_done ws i (named_by k c) (named k c given (length before)) m f.0 slot.0 f.1 (eqb-true _ 0 t) in
         record { table = rw d (rw t at o.table); reply = rw d (rw t at o.reply); notice = rw d (rw t at o.notice) }
     by_status false t =
         let f = is_here ws (named_by k c) slot (sym known ∙ q) in

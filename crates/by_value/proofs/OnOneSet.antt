@@ -31,7 +31,7 @@ use Rattle.commands.specs.Shapes.{kind_of, needs_out}
 use Rattle.steps.specs.Commanded.{mode_no, answer_of}
 use Rattle.by_value.specs.OnSet.{status_on, after_on, answer_on, OnSet}
 use Rattle.by_value.proofs.Passed.{Fine, fine}
-use Rattle.by_value.proofs.Told.{told-put}
+use Rattle.by_value.proofs.Told.{told_put}
 
 pub latency_long : (r : Record) → length (latency_page r) ≡ latency_size
 unfolding latency_page
@@ -78,14 +78,14 @@ module _ (ws : List ℕ) (slot : ℕ) (k : Kind) (c : Command) (given before : L
       }
 
   -- the record after it, stored; its reply; and then the desk told of it, with the notice beside that reply
-  pub on-done :
+  pub on_done :
       (r' : Record) (us words buffer : List ℕ) (y : Reply) (new : Bool) (n : Notice) → s ≡ 0 → r' ≡ after_on k c given rec
       → us ≡ put ws slot (words_of r') → Replied (answer_of k c rec) before y buffer → new ≡ newly_listed rec r'
       → Tells us (settle new (desk_at us)) words n → x ≡ beside_of y n → OnSet ws slot k c given before x words buffer
-  on-done r' us words buffer y new n z e h p en t ex =
+  on_done r' us words buffer y new n z e h p en t ex =
       let q : eqb (status_on k c (length given) (length before) (record_of (row ws slot))) 0 ≡ true = eq-eqb _ 0 (sym status_is ∙ z) in
       let a : answer_of k c rec ≡ answer_on k c given (length before) (record_of (row ws slot)) = rw q (ap (answer_of k c) er) in
-      let d = rw (e, er) at (told-put ws us words new n t slot rec r' h en) in
+      let d = rw (e, er) at (told_put ws us words new n t slot rec r' h en) in
       record {
         table = rw q d.desk;
         reply = rw ex (subst (λ (b : Answer). Replied b before (beside_of y n) buffer) a (with_notice _ before buffer y n p));

@@ -48,9 +48,9 @@ fine k c given room s e z =
     fine_by k c given room e n.part (late_passed k c given room s n.later).short
 
 -- of a command that names no set
-pub view-fine :
+pub view_fine :
     (k : Kind) (c : Command) (given room s : ℕ) → k ≡ kind_of c → s ≡ first_of (early_lines c ++ short_line k c given room ∷ []) → s ≡ 0
     → Fine k c given room
-view-fine k c given room s e es z =
+view_fine k c given room s e es z =
     let n = early_passed c (short_line k c given room ∷ []) refl (sym es ∙ z) in
     fine_by k c given room e n.part (passed (short_line k c given room ∷ []) refl n.later).0

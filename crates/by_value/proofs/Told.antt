@@ -45,16 +45,16 @@ rows_desk ws rs us e t =
 
 module _ (ws us vs : List ℕ) (new : Bool) (n : Notice) (t : Tells us (settle new (desk_at us)) vs n) where
   -- of the one record that was stored
-  pub told-put :
+  pub told_put :
       (k : ℕ) (r x : Record) → us ≡ put ws k (words_of x) → new ≡ newly_listed r x
       → Tells (put ws k (words_of x)) (settle (newly_listed r x) (desk_at ws)) vs n
-  told-put k r x eu en = rw (eu, en, desk_at_put ws k (words_of x) (length_words x)) at t
+  told_put k r x eu en = rw (eu, en, desk_at_put ws k (words_of x) (length_words x)) at t
 
   -- of all records
-  pub told-rows :
+  pub told_rows :
       (rs xs : List Record) → us ≡ written_rows ws xs → new ≡ newly rs xs
       → Tells (written_rows ws xs) (settle (newly rs xs) (desk_at ws)) vs n
-  told-rows rs xs eu en = rw (eu, en, same_desk ws (written_rows ws xs) (rows_part ws xs)) at t
+  told_rows rs xs eu en = rw (eu, en, same_desk ws (written_rows ws xs) (rows_part ws xs)) at t
 
 -- ---- whether some set was listed, asked of one record after the other: a turn of the loop
 
@@ -73,10 +73,10 @@ later_stays : (ws : List ℕ) (n i : ℕ) (x : Record) → later (put ws i (word
 later_stays ws n i x = rw (add-one, rows_other ws i (words_of x) (length_words x) (suc i) (n - suc i) (omega arith))
 
 -- the record that was loaded, the record that the rule made of it, whether that listed its set, and the table that has it
-pub listing-again :
+pub listing_again :
     (f : Record → Record) (ws : List ℕ) (n i : ℕ) (new goal : Bool) → listing f ws n i new ≡ goal → i < n → (r x : Record) (found : Bool) (vs : List ℕ)
     → r ≡ record_of (row ws i) → x ≡ f r → found ≡ newly_listed r x → vs ≡ put ws i (words_of x) → listing f vs n (i + 1) (new || found) ≡ goal
-listing-again f ws n i new goal inv h r x found vs er ex ef ev =
+listing_again f ws n i new goal inv h r x found vs er ex ef ev =
     let q : listing f ws n (i + 1) (new || newly_listed (record_of (row ws i)) (f (record_of (row ws i)))) ≡ goal
     = or_assoc new _ _ ∙ (rw (later_more ws n i h) at inv) in
     rw (ev, later_stays ws n i x, ef, ex, er) q

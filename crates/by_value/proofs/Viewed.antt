@@ -13,7 +13,7 @@ use Rattle.replies.specs.declared.Notice.TheVariants.{Unsent}
 use Rattle.replies.specs.declared.Reply.{Reply}
 use Rattle.replies.specs.Status.{first_of}
 use Rattle.replies.specs.Answers.{saying, answered, refused, refusing, giving, beside_of, Replied}
-use Rattle.replies.proofs.Answering.{granting, one-outcome, with_notice, refused_reply, no_data, waits_reply}
+use Rattle.replies.proofs.Answering.{granting, one_outcome, with_notice, refused_reply, no_data, waits_reply}
 use Rattle.desk.specs.Desk.{lifted, settle}
 use Rattle.table.specs.Table.{desk_at, with_desk, DeskThere, Tells, legal_table}
 use Rattle.table.proofs.LegalTables.{legal_known, desk_there}
@@ -31,7 +31,7 @@ use Rattle.steps.specs.Meanings.{meaning}
 use Rattle.steps.specs.Card.{refusal_of, after, answer}
 use Rattle.steps.specs.Words.{card_of, Answered}
 use Rattle.steps.proofs.AtDesk.{nobody_sets, told_nobody}
-use Rattle.steps.proofs.StepOnWords.{step-legal, step-refused}
+use Rattle.steps.proofs.StepOnWords.{step_legal, step_refused}
 use Rattle.steps.proofs.CommandIs.{command_is}
 use Rattle.by_value.proofs.EventsAndTicks.{turned_down}
 
@@ -52,37 +52,37 @@ module _ (ws : List ℕ) (i : Item) (k : Kind) (c : Command) (given : ℕ) (befo
   refusal_is = rw m (sym es)
 
   pub viewed_refused : (x : Reply) → (s ≡ 0 → ⊥) → x ≡ refusing s → Answered ws i before x ws before
-  viewed_refused x n ex = turned_down ws i before s x (step-refused ws i s e refusal_is n) ex
+  viewed_refused x n ex = turned_down ws i before s x (step_refused ws i s e refusal_is n) ex
 
   answer_is : s ≡ 0 → answer (card_of ws) i ≡ saying (doing k).status ((doing k).word (card_of ws)) (asked_of k c ((doing k).view c (card_of ws)))
   unfolding answer
   answer_is z = rw (m, ← es, z)
 
   -- carried out: the desk after it, and its reply, with the notice that goes out
-  pub viewed-done :
+  pub viewed_done :
       (vs : List ℕ) (n : Notice) (x : Reply) (buffer : List ℕ) → s ≡ 0 → Tells ws (settle false ((doing k).desk c (desk_at ws))) vs n
       → Replied (saying (doing k).status ((doing k).word (card_of ws)) (asked_of k c ((doing k).view c (card_of ws)))) before x buffer → x.notice ≡ n
       → Answered ws i before x vs buffer
-  viewed-done vs n x buffer z t p ex =
-      let d = step-legal ws i e in
+  viewed_done vs n x buffer z t p ex =
+      let d = step_legal ws i e in
       let w = written_desk ws (legal_known ws e) (after (card_of ws) i) (nobody_sets i _ m (card_of ws)) in
       let o = told_nobody i _ m (card_of ws) (refusal_is ∙ z) in
       record { table = rw (d, w, o) t.desk; reply = rw (d, answer_is z) p; notice = rw (d, o) (ex ∙ t.sent) }
 
   -- without dword 0 and data
-  pub viewed-told :
+  pub viewed_told :
       (vs : List ℕ) (n : Notice) (y x : Reply) → s ≡ 0 → Tells ws (settle false ((doing k).desk c (desk_at ws))) vs n
       → (doing k).word (card_of ws) ≡ 0 → asked_of k c ((doing k).view c (card_of ws)) ≡ [] → y ≡ refusing (doing k).status → x ≡ beside_of y n
       → Answered ws i before x vs before
-  viewed-told vs n y x z t w v ey ex = viewed-done vs n x before z t (rw (ex, ey, w, v) (waits_reply (doing k).status before n)) (rw ex)
+  viewed_told vs n y x z t w v ey ex = viewed_done vs n x before z t (rw (ex, ey, w, v) (waits_reply (doing k).status before n)) (rw ex)
 
 -- ---- page 0Bh, which lifts the mask and drops the flag unless Retain is set
 
-lifts-tells :
+lifts_tells :
     (ws vs : List ℕ) → DeskThere ws → (b : Bool) → vs ≡ (if not b then with_desk ws (lifted (desk_at ws)) else ws)
     → Tells ws (settle false (if b then desk_at ws else lifted (desk_at ws))) vs Unsent
-lifts-tells ws vs t true h = rw h (quiet_tells ws t)
-lifts-tells ws vs t false h = record { desk = h; sent = refl }
+lifts_tells ws vs t true h = rw h (quiet_tells ws t)
+lifts_tells ws vs t false h = record { desk = h; sent = refl }
 
 module _ (ws : List ℕ) (i : Item) (c : Command) (given : ℕ) (before : List ℕ) (m : meaning i ≡ Nobody (viewed ReadAggregate c given (length before)))
     (e : legal_table ws ≡ true) (s : ℕ) (es : s ≡ view_status ReadAggregate c given (length before) ws) (bytes : List ℕ) (y x : Reply) (buffer vs : List ℕ)
@@ -93,10 +93,10 @@ module _ (ws : List ℕ) (i : Item) (c : Command) (given : ℕ) (before : List �
 
   by_status : (b : Bool) → eqb s 0 ≡ b → Answered ws i before x vs buffer
   by_status true t =
-      viewed-done ws i ReadAggregate c given before m e s es vs Unsent x buffer (eqb-true s 0 t)
-      (lifts-tells ws vs (desk_there ws (legal_known ws e)) (retain c) (rw t at ev)) (rw (t, eb) at reply_is) (rw ex)
+      viewed_done ws i ReadAggregate c given before m e s es vs Unsent x buffer (eqb-true s 0 t)
+      (lifts_tells ws vs (desk_there ws (legal_known ws e)) (retain c) (rw t at ev)) (rw (t, eb) at reply_is) (rw ex)
   by_status false t =
-      let f = one-outcome (refused s) before buffer before x (refusing s) (rw t at reply_is) (refused_reply s before) (rw ex) in
+      let f = one_outcome (refused s) before buffer before x (refusing s) (rw t at reply_is) (refused_reply s before) (rw ex) in
       let v : vs ≡ ws = rw t at ev in
       rw (v, f.1) (viewed_refused ws i ReadAggregate c given before m e s es x (eqb-false s 0 t) f.0)
 
@@ -111,17 +111,17 @@ pub identified :
     → s ≡ 0 → page ≡ set_list_of c (card_of ws) → n ≡ length page → n ≤ length before → buffer ≡ sets before 0 page → x ≡ giving 0 n
     → Answered ws i before x ws buffer
 identified ws i c given before m e s es n page x buffer z ep en h eb ex =
-    viewed-done ws i Identify c given before m e s es ws Unsent x buffer z (quiet_tells ws (desk_there ws (legal_known ws e)))
+    viewed_done ws i Identify c given before m e s es ws Unsent x buffer z (quiet_tells ws (desk_there ws (legal_known ws e)))
     (rw (ex, ← ep) (granting n 0 page before buffer en h eb)) (rw ex)
 
 -- ---- Get Features 0Bh: dword 0 alone
 
-pub notices-read :
+pub notices_read :
     (ws : List ℕ) (i : Item) (c : Command) (given : ℕ) (before : List ℕ) → meaning i ≡ Nobody (viewed GetNotices c given (length before))
     → legal_table ws ≡ true → (s : ℕ) → s ≡ view_status GetNotices c given (length before) ws → (on : Bool) (w : ℕ) (x : Reply)
     → s ≡ 0 → on ≡ (desk_at ws).on → w ≡ notices_no on → x ≡ giving w 0 → Answered ws i before x ws before
-notices-read ws i c given before m e s es on w x z eo ew ex =
-    viewed-done ws i GetNotices c given before m e s es ws Unsent x before z (quiet_tells ws (desk_there ws (legal_known ws e)))
+notices_read ws i c given before m e s es on w x z eo ew ex =
+    viewed_done ws i GetNotices c given before m e s es ws Unsent x before z (quiet_tells ws (desk_there ws (legal_known ws e)))
     (rw (ex, ew, eo) (no_data _ before)) (rw ex)
 
 -- ---- which command it is

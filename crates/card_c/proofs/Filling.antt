@@ -25,7 +25,7 @@ use Rattle.by_value.specs.SetUp.{kept_record}
 use Rattle.by_value.proofs.Bodies.{bodies_none, bodies_more, kept_sets, set_up_refused, set_up_done}
 use Rattle.region.specs.Region.{table_in, table_out, with_record, with_records}
 use Rattle.region.proofs.Words.{row_out, length_in, own_region}
-use Rattle.region.proofs.EveryRow.{card-out}
+use Rattle.region.proofs.EveryRow.{card_out}
 use Rattle.card_c.specs.Entries.{SetUpAtC}
 
 pub record Filling (bytes b₀ : List ℕ) (n : ℕ) (b : List ℕ) (at i : ℕ) : Type 0 where
@@ -38,11 +38,11 @@ pub record Filling (bytes b₀ : List ℕ) (n : ℕ) (b : List ℕ) (at i : ℕ)
 pub filling_start : (bytes b : List ℕ) (n : ℕ) → AllBytes b → Filling bytes b n b 0 0
 filling_start bytes b n each = record { some = omega arith; place = refl; each = each; long = refl; todo = rw sub-zero }
 
-pub filling-turn :
+pub filling_turn :
     (bytes b₀ : List ℕ) (n : ℕ) (b : List ℕ) (at i : ℕ) → row_start n ≤ length b₀ / word_size → i < n → Filling bytes b₀ n b at i
     → (a : Attributes) (r : Record) (c : List ℕ) → a ≡ kept_of (attributes_in bytes at) → r ≡ new_record a → c ≡ with_record b i r
     → Filling bytes b₀ n c (at + body_size) (i + 1)
-filling-turn bytes b₀ n b at i room h u a r c ea er ec =
+filling_turn bytes b₀ n b at i room h u a r c ea er ec =
     let from = row_start i * word_size in
     let l = u.long in
     let inb : row_start (i + 1) ≤ length b / word_size = omega (arith, l) in
@@ -71,11 +71,11 @@ module _ (bytes b : List ℕ) (s : ℕ) (each : AllBytes b) (e : s ≡ set_up_st
       let u = set_up_refused bytes (table_in b) s on_words n in
       record { table = sym (own_region b each) ∙ ap (table_out b) u.table; status = u.status }
 
-  pub new-done :
+  pub new_done :
       s ≡ 0 → (c d : List ℕ) → c ≡ put_words b 0 (layout_number ∷ bodies bytes ∷ desk_words new_desk) → d ≡ with_records c 0 (map kept_record (attributes_from bytes 0 (bodies bytes)))
       → SetUpAtC bytes b d s
   unfolding new_sets
-  new-done z c d ec ed =
+  new_done z c d ec ed =
       let w = well bytes (length b / word_size) s e z in
       let m = new_length bytes in
       let u = set_up_done bytes (table_in b) s on_words z (new_table bytes (table_in b)) refl in
@@ -83,7 +83,7 @@ module _ (bytes b : List ℕ) (s : ℕ) (each : AllBytes b) (e : s ≡ set_up_st
         table =
             ed ∙ ap (with_records c 0) (kept_sets 0 (attributes_from bytes 0 (bodies bytes)) w.legal)
             ∙ ap (λ (y : List ℕ). with_records y 0 (new_sets bytes)) (ec ∙ ap (put_words b 0) (new_header bytes))
-            ∙ card-out b (new_card bytes) each (omega (arith, m, w.room))
+            ∙ card_out b (new_card bytes) each (omega (arith, m, w.room))
             ∙ ap (table_out b) u.table;
         status = u.status;
       }

@@ -25,7 +25,7 @@ use Rattle.steps.specs.Items.{Item, GivenBytes}
 use Rattle.steps.specs.Words.{step_words}
 use Rattle.steps.specs.SetUp.{new_record, attributes_from, bodies, new_sets, new_card, new_table, set_up}
 use Rattle.steps.specs.Holders.{Steps}
-use Rattle.steps.proofs.StepOnWords.{step-legal}
+use Rattle.steps.proofs.StepOnWords.{step_legal}
 use Rattle.steps.proofs.WordsStay.{words_stay}
 use Rattle.steps.proofs.HeldHistories.{never_lost, demanded}
 use Rattle.steps.proofs.HeldWords.{seen_within}
@@ -36,7 +36,7 @@ use Rattle.card_c.proofs.Replies.{notice_left_out, notice_heard}
 
 -- what a step leaves is as long as what it found
 step_long : (ws : List ℕ) (i : Item) → legal_table ws ≡ true → length (step_words ws i).table ≡ length ws
-step_long ws i e = rw (step-legal ws i e) (length_written ws _)
+step_long ws i e = rw (step_legal ws i e) (length_written ws _)
 
 step_in : (region : List ℕ) (i : Item) → legal_table (table_in region) ≡ true → AllBytes region → GivenBytes i
     → table_in (table_out region (step_words (table_in region) i).table) ≡ (step_words (table_in region) i).table
@@ -47,7 +47,7 @@ c_steps : Steps held_by_c
 c_steps =
     record {
       after = λ region l b after e u. u.2.table;
-      words-after = λ region l b after e u. ap table_in u.2.table ∙ step_in region l.item e u.0 u.1;
+      words_after = λ region l b after e u. ap table_in u.2.table ∙ step_in region l.item e u.0 u.1;
       said = λ region l b after u i. record { number = u.2.status i; buffer = u.2.answer i; said = u.2.reply i };
       told = λ l a n. refl;
       seen = λ region l b after u at n h. seen_within b.buffer _ _ refl u.2.part at n h;

@@ -37,7 +37,7 @@ use Rattle.table.proofs.LegalTables.{legal_known, length_records, slot_legal, is
 use Rattle.table.proofs.Turns.{later_more}
 use Rattle.region.specs.Region.{table_in, table_out, record_at, with_record, LegalAt, Moved, TellsAt}
 use Rattle.region.proofs.Words.{length_in, own_region}
-use Rattle.region.proofs.EveryRow.{Undone, undone-row}
+use Rattle.region.proofs.EveryRow.{Undone, undone_row}
 use Rattle.region.proofs.AtDesk.{stored_there, told_words_lem, told_region}
 use Rattle.commands.specs.declared.Command.{Command}
 use Rattle.commands.specs.declared.Kind.{Kind}
@@ -51,7 +51,7 @@ use Rattle.by_value.specs.OnSet.{table_on, OnSet}
 use Rattle.steps.proofs.AtDesk.{new_self}
 use Rattle.steps.proofs.StepOnWords.{here}
 use Rattle.by_value.proofs.Told.{entered_desk, listing}
-use Rattle.by_value.proofs.EventsAndTicks.{event-here}
+use Rattle.by_value.proofs.EventsAndTicks.{event_here}
 use Rattle.by_value.proofs.Viewed.{view_status, aggregate_read}
 use Rattle.card_c.specs.Entries.{reply_part, AnsweredAtC}
 use Rattle.card_c.specs.InPlace.{ruled_by, RuledAt, AnswerAtC, OnSetAtC}
@@ -84,10 +84,10 @@ module _ (rule : Attributes → State → Effect) (r₀ r : Record) (e : Effect)
   is_ruled : settled r e ≡ ruled_by rule r₀
   is_ruled = rw (ee, er)
 
-  pub ruled-at :
+  pub ruled_at_lem :
       (region : List ℕ) (slot : ℕ) (after : List ℕ) (new : Bool) → r₀ ≡ record_at region slot
       → (after ≡ with_record region slot (settled r e)) × (new ≡ newly_listed r (settled r e)) → RuledAt rule region slot after new
-  ruled-at region slot after new q h =
+  ruled_at_lem region slot after new q h =
       record {
         table = h.0 ∙ ap (with_record region slot) (is_ruled ∙ ap (ruled_by rule) q);
         listed = h.1 ∙ ap₂ newly_listed er is_ruled ∙ ap (λ (y : Record). newly_listed y (ruled_by rule y)) q;
@@ -98,10 +98,10 @@ module _ (rule : Attributes → State → Effect) (r₀ r : Record) (e : Effect)
 still_same : (r : Record) → settled r (still r.state) ≡ r
 still_same r = ap (λ (n : Notes). record { attributes = r.attributes; state = r.state; notes = n }) (silent_notes r (still r.state) refl)
 
-pub not-stored :
+pub not_stored :
     (region : List ℕ) (slot : ℕ) (r : Record) → LegalAt region slot → AllBytes region → r ≡ record_at region slot
     → region ≡ with_record region slot (settled r (still r.state))
-not-stored region slot r l each e =
+not_stored region slot r l each e =
     let ws = table_in region in
     let p : put ws slot (words_of (record_at region slot)) ≡ ws = put_own ws slot (omega (arith, l.room, length_in region)) (row_of (row ws slot) l.legal) in
     sym (ap (with_record region slot) (still_same r ∙ e) ∙ ap (table_out region) p ∙ own_region region each)
@@ -144,22 +144,22 @@ module _ (region : List ℕ) (slot : ℕ) (x : Record) (each : AllBytes region) 
 pub told_alone : (region : List ℕ) (t : Told) (after : List ℕ) (n : Notice) → TellsAt region t after n → Tells (table_in region) t (with_desk (table_in region) t.desk) n
 told_alone region t after n h = record { desk = refl; sent = h.sent }
 
-pub answer-out :
+pub answer_out :
     (region : List ℕ) (i : Item) (before : List ℕ) (r : Reply) (words after buffer : List ℕ) → Answered (table_in region) i before r words buffer → after ≡ table_out region words
     → AnswerAtC region i before r after buffer
-answer-out region i before r words after buffer s e = record { table = e ∙ ap (table_out region) s.table; reply = s.reply; notice = s.notice }
+answer_out region i before r words after buffer s e = record { table = e ∙ ap (table_out region) s.table; reply = s.reply; notice = s.notice }
 
 -- a region that is left as it is, unless the words change
-either-out :
+either_out :
     (region : List ℕ) → AllBytes region → (b : Bool) (ws after : List ℕ) → after ≡ (if b then table_out region ws else region)
     → after ≡ table_out region (if b then ws else table_in region)
-either-out region each true ws after e = e
-either-out region each false ws after e = e ∙ sym (own_region region each)
+either_out region each true ws after e = e
+either_out region each false ws after e = e ∙ sym (own_region region each)
 
-pub answer-same :
+pub answer_same :
     (region : List ℕ) (i : Item) (before : List ℕ) (r : Reply) (buffer : List ℕ) → AllBytes region → Answered (table_in region) i before r (table_in region) buffer
     → AnswerAtC region i before r region buffer
-answer-same region i before r buffer each s = answer-out region i before r (table_in region) region buffer s (sym (own_region region each))
+answer_same region i before r buffer each s = answer_out region i before r (table_in region) region buffer s (sym (own_region region each))
 
 -- the slot that an item enters by
 pub entered_at : (region : List ℕ) (id : ℕ) (e : Entry) (s : Slot) → e ≡ enter_in (table_in region) id → e ≡ Here s → LegalAt region s.0
@@ -175,37 +175,37 @@ entered_there region id e s known q = entered_desk (table_in region) id e s know
 -- ---- media events
 
 -- the slot's record after its rule, stored, and then the desk told of it
-pub event-out :
+pub event_out :
     (region : List ℕ) (id : ℕ) (m : Media) (e : Entry) → e ≡ enter_in (table_in region) id → (x : Reply) (s : Slot) → e ≡ Here s → AllBytes region
     → (stored : List ℕ) (new : Bool) → RuledAt (media_rule m) region s.0 stored new → (after : List ℕ) (n : Notice)
     → TellsAt stored (settle new (desk_at (table_in stored))) after n → (z : Reply) → z ≡ done → x ≡ beside_of z n
     → AnswerAtC region (item_of id m) [] x after []
-event-out region id m e known x s q each stored new r after n h z ez ex =
+event_out region id m e known x s q each stored new r after n h z ez ex =
     let ws = table_in region in
     let l = entered_at region id e s known q in
     let y = ruled_by (media_rule m) (record_at region s.0) in
     let t = entered_there region id e s known q in
-    answer-out region (item_of id m) [] x _ after []
-    (event-here ws id m e known x s q (record_at region s.0) y (put ws s.0 (words_of y)) _ new n z refl refl refl r.listed
+    answer_out region (item_of id m) [] x _ after []
+    (event_here ws id m e known x s q (record_at region s.0) y (put ws s.0 (words_of y)) _ new n z refl refl refl r.listed
     (stored_told region s.0 y each l t stored r.table new after n h) ez ex)
     (stored_out region s.0 y each l t stored r.table new after n h)
 
 -- ---- ticks
 
 -- the rows of a legal table lie in its region, and a rule on each of them makes as many
-pub ticked-room :
+pub ticked_room :
     (region : List ℕ) (f : Record → Record) → Legal (table_in region) → row_start (length (map f (records_of (table_in region)))) ≤ length region / word_size
-ticked-room region f l =
+ticked_room region f l =
     let e : length (map f (records_of (table_in region))) ≡ length (records_of (table_in region)) = simp length-map in
     omega (arith, e, length_records (table_in region), l.room, length_in region)
 
 -- whether some set was listed, asked row after row: those still to be done are as they were at the start
-pub listing-turn :
+pub listing_turn :
     (f : Record → Record) (b₀ : List ℕ) (n : ℕ) (b : List ℕ) (i : ℕ) → row_start n ≤ length b₀ / word_size → i < n → Undone f b₀ n b i → (new goal : Bool)
     → listing f (table_in b₀) n i new ≡ goal → (found : Bool) → found ≡ newly_listed (record_at b i) (f (record_at b i))
     → listing f (table_in b₀) n (i + 1) (new || found) ≡ goal
-listing-turn f b₀ n b i room h u new goal inv found ef =
-    let same : record_at b i ≡ record_at b₀ i = ap record_of (undone-row f b₀ n b i room h u) in
+listing_turn f b₀ n b i room h u new goal inv found ef =
+    let same : record_at b i ≡ record_at b₀ i = ap record_of (undone_row f b₀ n b i room h u) in
     let q : listing f (table_in b₀) n (i + 1) (new || newly_listed (record_at b₀ i) (f (record_at b₀ i))) ≡ goal
     = or_assoc new _ _ ∙ (rw (later_more (table_in b₀) n i h) at inv) in
     rw (ef, same) q
@@ -226,24 +226,24 @@ on_in region slot k c given before r after buffer o = record { table = refl; rep
 -- page 0Bh: the desk after it in its place, or the region as it is
 module _ (region : List ℕ) (i : Item) (c : Command) (given : ℕ) (before : List ℕ) (m : meaning i ≡ Nobody (viewed ReadAggregate c given (length before)))
     (e : legal_table (table_in region) ≡ true) (s : ℕ) (es : s ≡ view_status ReadAggregate c given (length before) (table_in region)) (bytes : List ℕ) where
-  pub aggregate-out :
+  pub aggregate_out :
       (y x : Reply) (buffer after : List ℕ) → bytes ≡ asked_of ReadAggregate c (aggregate_of c (card_of (table_in region)))
       → Replied (answered s 0 bytes) before y buffer → x ≡ beside_of y Unsent → AllBytes region
       → after ≡ (if eqb s 0 && not (retain c) then table_out region (with_desk (table_in region) (lifted (desk_at (table_in region)))) else region)
       → AnswerAtC region i before x after buffer
-  aggregate-out y x buffer after eb p ex each ev =
+  aggregate_out y x buffer after eb p ex each ev =
       let ws = with_desk (table_in region) (lifted (desk_at (table_in region))) in
       let b = eqb s 0 && not (retain c) in
-      answer-out region i before x (if b then ws else table_in region) after buffer
+      answer_out region i before x (if b then ws else table_in region) after buffer
       (aggregate_read (table_in region) i c given before m e s es bytes y x buffer (if b then ws else table_in region) eb p ex refl)
-      (either-out region each b ws after ev)
+      (either_out region each b ws after ev)
 
 -- a reply, as bytes
-pub answered-at :
+pub answered_at :
     (region : List ℕ) (i : Item) (before reply₀ : List ℕ) (r : Reply) (after buffer said : List ℕ)
     → AnswerAtC region i before r after buffer → said ≡ sets reply₀ 0 (reply_part r.dword r.len r.notice (length reply₀))
     → AnsweredAtC region i before reply₀ r.status after buffer said
-answered-at region i before reply₀ r after buffer said a e =
+answered_at region i before reply₀ r after buffer said a e =
     let p = a.reply in
     record {
       table = a.table;

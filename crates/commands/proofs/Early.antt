@@ -61,11 +61,11 @@ module _ (k : Kind) (c : Command) (e : k ≡ kind_of c) (op n : ℕ) (s : Shape)
           let q : invalid_field ≡ first_of (rows_of k c) = rw (w, has, not_it, ne_eqb (opcode c) log_opcode (λ z. l (eo ∙ z))) in
           q ∙ early_is k c e
 
-    pub listed-rows :
+    pub listed_rows :
         (b : Bool) (r : ℕ) → b ≡ (not s.chooses || eqb n s.choice) → b ≡ true
         → r ≡ first_of (line (s.save && save c) not_saveable ∷ line (s.select && not (eqb (select c) 0) || s.part && part_wrong k c) invalid_field ∷ [])
         → r ≡ first_of (early_lines c)
-    listed-rows b r eb m er =
+    listed_rows b r eb m er =
         let l : has_choice (chosen c) k ≡ true = choice_is b eb ∙ m in
         let q : first_of (line (s.save && save c) not_saveable ∷ line (s.select && not (eqb (select c) 0) || s.part && part_wrong k c) invalid_field ∷ []) ≡ first_of (rows_of k c)
         = rw (es, w, has, l, and-false (not (reads_log c)), and-false (reads_log c)) in

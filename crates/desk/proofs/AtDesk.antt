@@ -46,10 +46,10 @@ module _ (on masked flag new : Bool) where
   sends_by : (ws : List ℕ) → sends new (desk_words (desk_of on masked flag ws)) ≡ (flag || new) && on && not masked && ltb 0 (length ws)
   sends_by ws = rw (bit_one flag, bit_one on, bit_none masked)
 
-settle-words :
+settle_words :
     (new : Bool) (d : Desk) → leb (length d.waiting) requests_maximum ≡ true → all_identifiers d.waiting ≡ true
     → settled_words new (desk_words d) ≡ words_of_told (settle new d)
-settle-words new d few ids =
+settle_words new d few ids =
     ap (λ (b : Bool). if b then served (desk_words d) else remembered new (desk_words d)) (sends_by d.on d.masked d.flag new d.waiting)
     ∙ settle_by d.on d.masked d.flag new ((d.flag || new) && d.on && not d.masked) d.waiting few ids
 
@@ -73,21 +73,21 @@ module _ (a : List ℕ) (w : WordsOfDesk a) where
   pub settle_at : (new : Bool) → settled_words new a ≡ words_of_told (settle new (desk_in a))
   settle_at new =
       let f = fine (desk_in a) w.legal in
-      ap (settled_words new) w.words ∙ settle-words new (desk_in a) f.few f.ids
+      ap (settled_words new) w.words ∙ settle_words new (desk_in a) f.few f.ids
 
-  pub queue-at :
+  pub queue_at :
       (id : ℕ) → length (desk_in a).waiting < requests_maximum → id ≤ identifier_maximum
       → settled_words false (queued_words id a) ≡ words_of_told (settle false (queued id (desk_in a)))
-  queue-at id h k =
+  queue_at id h k =
       let f = fine (desk_in a) w.legal in
       ap (λ (x : List ℕ). settled_words false (queued_words id x)) w.words
       ∙ ap (settled_words false) (queue_words id (desk_in a) h)
-      ∙ settle-words false (queued id (desk_in a)) (queued_few (desk_in a).waiting id h) (queued_ids (desk_in a).waiting id f.ids k)
+      ∙ settle_words false (queued id (desk_in a)) (queued_few (desk_in a).waiting id h) (queued_ids (desk_in a).waiting id f.ids k)
 
   pub turn_at_lem : (on : Bool) → settled_words false (turned_words on a) ≡ words_of_told (settle false (turned on (desk_in a)))
   turn_at_lem on =
       let f = fine (desk_in a) w.legal in
-      ap (λ (x : List ℕ). settled_words false (turned_words on x)) w.words ∙ settle-words false (turned on (desk_in a)) f.few f.ids
+      ap (λ (x : List ℕ). settled_words false (turned_words on x)) w.words ∙ settle_words false (turned on (desk_in a)) f.few f.ids
 
   pub lift_at : lifted_words a ≡ desk_words (lifted (desk_in a))
   lift_at = ap lifted_words w.words

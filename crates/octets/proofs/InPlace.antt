@@ -13,7 +13,7 @@ use Rattle.octets.proofs.Runs.{sets_whole, sets_append, sets_comm, sets_over, pa
 use Rattle.octets.proofs.Below.{below_rest, sets_below, Each, each_below}
 use Rattle.octets.proofs.Reading.{read_below}
 use Rattle.octets.proofs.PutAndGet.{length_bytes, get_put, get_other}
-use Rattle.octets.proofs.WordBytes.{length_words, words_append, own-words, put_append, put_rest}
+use Rattle.octets.proofs.WordBytes.{length_words, words_append, own_words, put_append, put_rest}
 
 -- ---- reading
 
@@ -71,26 +71,26 @@ put_front xs b at m each h room =
     ∙ ap (put_words b at) (sets_append xs (words_from b at n) rest 0 (omega (arith, own)))
     ∙ ap (λ (l : List ℕ). put_words b at (l ++ rest)) (sets_whole xs (words_from b at n) (sym own))
     ∙ put_append xs rest b at
-    ∙ own-words (m - n) (at + n * word_size) (put_words b at xs) b each (put_rest xs b at (at + n * word_size) (omega arith)) (omega arith)
+    ∙ own_words (m - n) (at + n * word_size) (put_words b at xs) b each (put_rest xs b at (at + n * word_size) (omega arith)) (omega arith)
 
-pub put-within :
+pub put_within :
     (xs b : List ℕ) (at m k : ℕ) → AllBytes b → k + length xs ≤ m → at + m * word_size ≤ length b
     → put_words b at (sets (words_from b at m) k xs) ≡ put_words b (at + k * word_size) xs
-put-within xs b at m zero each h room = put_front xs b at m each (omega arith) room ∙ ap (λ (x : ℕ). put_words b x xs) (omega arith)
-put-within xs b at zero (suc k) each h room = absurd (omega arith)
-put-within xs b at (suc m) (suc k) each h room =
+put_within xs b at m zero each h room = put_front xs b at m each (omega arith) room ∙ ap (λ (x : ℕ). put_words b x xs) (omega arith)
+put_within xs b at zero (suc k) each h room = absurd (omega arith)
+put_within xs b at (suc m) (suc k) each h room =
     let w = number_of (part b at word_size) in
     ap (put_words b at) (sets_later xs (words_from b (at + word_size) m) w k)
-    ∙ ap (λ (y : List ℕ). put_words y (at + word_size) (sets (words_from b (at + word_size) m) k xs)) (own-words 1 at b b each refl (omega arith))
-    ∙ put-within xs b (at + word_size) m k each (omega arith) (omega arith)
+    ∙ ap (λ (y : List ℕ). put_words y (at + word_size) (sets (words_from b (at + word_size) m) k xs)) (own_words 1 at b b each refl (omega arith))
+    ∙ put_within xs b (at + word_size) m k each (omega arith) (omega arith)
     ∙ ap (λ (x : ℕ). put_words b x xs) (omega arith)
 
 -- a run of words of which those before one place and those from another on are there already
-pub put-part :
+pub put_part :
     (xs b : List ℕ) (at m from to : ℕ) → AllBytes b → length xs ≡ m → at + m * word_size ≤ length b → from ≤ to → to ≤ m
     → take from xs ≡ words_from b at from → drop to xs ≡ words_from b (at + to * word_size) (m - to)
     → put_words b at xs ≡ put_words b (at + from * word_size) (part xs from (to - from))
-put-part xs b at m from to each long room order end before after =
+put_part xs b at m from to each long room order end before after =
     let mid = part xs from (to - from) in
     let lm : length mid ≡ to - from = simp (length-take, length-drop) (omega arith) in
     let lb : length (take from xs) ≡ from = simp length-take (omega arith) in
@@ -101,10 +101,10 @@ put-part xs b at m from to each long room order end before after =
     let at2 : at + from * word_size + length mid * word_size ≡ at + to * word_size = omega (arith, lm) in
     ap (put_words b at) split
     ∙ put_append (take from xs) (mid ++ drop to xs) b at
-    ∙ ap₂ (λ (y : List ℕ) (k : ℕ). put_words y k (mid ++ drop to xs)) (ap (put_words b at) before ∙ own-words from at b b each refl (omega arith)) af
+    ∙ ap₂ (λ (y : List ℕ) (k : ℕ). put_words y k (mid ++ drop to xs)) (ap (put_words b at) before ∙ own_words from at b b each refl (omega arith)) af
     ∙ put_append mid (drop to xs) b (at + from * word_size)
     ∙ ap₂ (put_words (put_words b (at + from * word_size) mid)) at2 after
-    ∙ own-words (m - to) (at + to * word_size) (put_words b (at + from * word_size) mid) b each (put_rest mid b (at + from * word_size) (at + to * word_size) (omega (arith, lm))) (omega arith)
+    ∙ own_words (m - to) (at + to * word_size) (put_words b (at + from * word_size) mid) b each (put_rest mid b (at + from * word_size) (at + to * word_size) (omega (arith, lm))) (omega arith)
 
 -- ---- bytes put are bytes
 

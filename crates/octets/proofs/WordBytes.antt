@@ -86,10 +86,10 @@ bytes_number (b ∷ bs) (suc n) e each =
     rw (low, high, bytes_number bs n (omega arith) (below_rest 256 b bs each))
 
 -- the words of bytes that two lists have in common from a place on, put back there, change nothing
-pub own-words :
+pub own_words :
     (n at : ℕ) (y l : List ℕ) → AllBytes l → drop at y ≡ drop at l → at + n * word_size ≤ length l → put_words y at (words_from l at n) ≡ y
-own-words zero at y l each e h = refl
-own-words (suc n) at y l each e h =
+own_words zero at y l each e h = refl
+own_words (suc n) at y l each e h =
     let long : length (drop at y) ≡ length (drop at l) = ap length e in
     let room : at + word_size ≤ length y = omega (arith, long, length-drop at y, length-drop at l) in
     let whole : length (part l at word_size) ≡ word_size = simp (length-take, length-drop) (omega arith) in
@@ -99,7 +99,7 @@ own-words (suc n) at y l each e h =
     let next : drop (at + word_size) y ≡ drop (at + word_size) l =
     sym (drop-drop word_size at y) ∙ ap (drop word_size) e ∙ drop-drop word_size at l in
     ap (λ (z : List ℕ). put_words z (at + word_size) (words_from l (at + word_size) n)) put
-    ∙ own-words n (at + word_size) y l each next (omega arith)
+    ∙ own_words n (at + word_size) y l each next (omega arith)
 
 pub put_append : (xs zs y : List ℕ) (at : ℕ) → put_words y at (xs ++ zs) ≡ put_words (put_words y at xs) (at + length xs * word_size) zs
 put_append [] zs y at = ap (λ (k : ℕ). put_words y k zs) (omega arith)

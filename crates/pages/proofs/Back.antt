@@ -66,7 +66,7 @@ attributes_of l =
 
 -- what is read number by number
 module _ (bytes : List ℕ) (at id group random optimal : ℕ) (total unallocated : Capacity) (reads writes time high low : ℕ) where
-  pub numbers-read :
+  pub numbers_read :
       id ≡ read_at bytes at body_id → group ≡ read_at bytes at body_group
       → random ≡ read_at bytes at body_random_read → optimal ≡ read_at bytes at body_optimal_write
       → total ≡ capacity_in bytes at body_total → unallocated ≡ capacity_in bytes at body_unallocated
@@ -86,7 +86,7 @@ module _ (bytes : List ℕ) (at id group random optimal : ℕ) (total unallocate
         minimum_low = low;
       }
       ≡ kept_of (attributes_in bytes at)
-  numbers-read e1 e2 e3 e4 e5 e6 e7 e8 e9 e10 e11 = rw (e1, e2, e3, e4, e5, e6, e7, e8, e9, e10, e11)
+  numbers_read e1 e2 e3 e4 e5 e6 e7 e8 e9 e10 e11 = rw (e1, e2, e3, e4, e5, e6, e7, e8, e9, e10, e11)
 
 -- what fits four bytes fits eight
 wide : (x : ℕ) → x < 2 ^ 32 → x < 2 ^ 64

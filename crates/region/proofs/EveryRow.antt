@@ -10,7 +10,7 @@ use Rattle.octets.specs.Octets.{AllBytes}
 use Rattle.octets.specs.Words.{word_size, put_words}
 use Rattle.octets.proofs.Runs.{sets_join}
 use Rattle.octets.proofs.WordBytes.{put_append, put_rest, length_put_words}
-use Rattle.octets.proofs.InPlace.{words_same, put_front, put-within, put_bytes}
+use Rattle.octets.proofs.InPlace.{words_same, put_front, put_within, put_bytes}
 use Rattle.record.specs.declared.Record.{Record}
 use Rattle.table.specs.Layout.{row_words, words_of, record_of}
 use Rattle.table.specs.Card.{Card, header}
@@ -63,15 +63,15 @@ rows_out b rs each h =
     let e : row_start 0 * word_size ≡ 0 + row_start 0 * word_size = omega arith in
     put_flat b 0 rs
     ∙ ap (λ (k : ℕ). put_words b k (flat rs)) e
-    ∙ sym (put-within (flat rs) b 0 (length b / word_size) (row_start 0) each (omega (arith, n)) (omega arith))
+    ∙ sym (put_within (flat rs) b 0 (length b / word_size) (row_start 0) each (omega (arith, n)) (omega arith))
     ∙ ap (table_out b) (sym (all_flat (table_in b) rs))
 
 -- the same with the header in front
-pub card-out :
+pub card_out :
     (b : List ℕ) (c : Card) → AllBytes b → row_start (length c.sets) ≤ length b / word_size
     → with_records (put_words b 0 (header c)) 0 c.sets ≡ table_out b (written (table_in b) c)
 unfolding written written_rows
-card-out b c each h =
+card_out b c each h =
     let l = length_flat c.sets in
     put_flat (put_words b 0 (header c)) 0 c.sets
     ∙ sym (put_append (header c) (flat c.sets) b 0)
@@ -91,26 +91,26 @@ pub undone_start : (f : Record → Record) (b : List ℕ) (n : ℕ) → AllBytes
 undone_start f b n each e =
     record { some = omega arith; each = each; long = refl; rest = refl; todo = ap (λ (rs : List Record). with_records b 0 (map f rs)) (later_all (table_in b) n e) }
 
-pub undone-row :
+pub undone_row :
     (f : Record → Record) (b₀ : List ℕ) (n : ℕ) (b : List ℕ) (i : ℕ) → row_start n ≤ length b₀ / word_size → i < n → Undone f b₀ n b i
     → row (table_in b) i ≡ row (table_in b₀) i
-undone-row f b₀ n b i room h u =
+undone_row f b₀ n b i room h u =
     let at = row_start i * word_size in
     let l = u.long in
     sym (row_in b i at (omega (arith, l)) refl) ∙ words_same b b₀ at row_words u.rest ∙ row_in b₀ i at (omega arith) refl
 
-pub undone-legal :
+pub undone_legal :
     (f : Record → Record) (b₀ : List ℕ) (n : ℕ) (b : List ℕ) (i : ℕ) → n ≡ count (table_in b₀) → Legal (table_in b₀) → i < n → Undone f b₀ n b i
     → LegalAt b i
-undone-legal f b₀ n b i e l h u =
+undone_legal f b₀ n b i e l h u =
     let room : row_start n ≤ length b₀ / word_size = omega (arith, l.room, length_in b₀) in
-    let same = undone-row f b₀ n b i room h u in
+    let same = undone_row f b₀ n b i room h u in
     record { room = omega (arith, u.long); legal = ap legal_row same ∙ slot_legal (table_in b₀) l i (omega arith) }
 
-pub undone-turn :
+pub undone_turn :
     (f : Record → Record) (b₀ : List ℕ) (n : ℕ) (b : List ℕ) (i : ℕ) → row_start n ≤ length b₀ / word_size → i < n → Undone f b₀ n b i
     → (c : List ℕ) → c ≡ with_record b i (f (record_at b i)) → Undone f b₀ n c (i + 1)
-undone-turn f b₀ n b i room h u c e =
+undone_turn f b₀ n b i room h u c e =
     let each = u.each in
     let at = row_start i * word_size in
     let next = row_start (i + 1) * word_size in
@@ -119,7 +119,7 @@ undone-turn f b₀ n b i room h u c e =
     let w = records.length_words x in
     let inb : row_start (i + 1) ≤ length b / word_size = omega (arith, l) in
     let cut : c ≡ put_words b at (words_of x) = e ∙ sym (row_out b (words_of x) i at each w inb refl) in
-    let fx : x ≡ f (record_at b₀ i) = ap (λ (a : List ℕ). f (record_of a)) (undone-row f b₀ n b i room h u) in
+    let fx : x ≡ f (record_at b₀ i) = ap (λ (a : List ℕ). f (record_of a)) (undone_row f b₀ n b i room h u) in
     let past : at + length (words_of x) * word_size ≤ next = omega (arith, w) in
     let step : next ≡ at + row_words * word_size = omega arith in
     let rest₀ : drop next b ≡ drop next b₀ =
@@ -138,10 +138,10 @@ undone-turn f b₀ n b i room h u c e =
 pub undone_end : (f : Record → Record) (b₀ : List ℕ) (n : ℕ) (b : List ℕ) (i : ℕ) → n ≤ i → Undone f b₀ n b i → b ≡ with_records b₀ 0 (map f (records_of (table_in b₀)))
 undone_end f b₀ n b i h u = ap (λ (rs : List Record). with_records b i (map f rs)) (sym (later_none (table_in b₀) n i h)) ∙ u.todo
 
-pub undone-all :
+pub undone_all :
     (f : Record → Record) (b₀ : List ℕ) (n : ℕ) (b : List ℕ) (i : ℕ) → AllBytes b₀ → row_start (length (records_of (table_in b₀))) ≤ length b₀ / word_size → n ≤ i → Undone f b₀ n b i
     → b ≡ table_out b₀ (written_rows (table_in b₀) (map f (records_of (table_in b₀))))
-undone-all f b₀ n b i each room h u =
+undone_all f b₀ n b i each room h u =
     let rs = map f (records_of (table_in b₀)) in
     let e : length rs ≡ length (records_of (table_in b₀)) = simp length-map in
     undone_end f b₀ n b i h u ∙ rows_out b₀ rs each (omega (arith, e))

@@ -7,8 +7,8 @@ use lib.ListN.{length, get_or, take, drop, length-take, length-drop, drop_of_len
 use lib.Seq.{sets, drop-drop, take-add}
 use Rattle.octets.specs.Octets.{number_of, part, AllBytes}
 use Rattle.octets.specs.Words.{word_size, AllWords, words_from, put_words}
-use Rattle.octets.proofs.WordBytes.{length_words, own-words, put_append, length_put_words}
-use Rattle.octets.proofs.InPlace.{words_back, words_read, word_of, first_words, later_words, rest_words, put-within, put-part}
+use Rattle.octets.proofs.WordBytes.{length_words, own_words, put_append, length_put_words}
+use Rattle.octets.proofs.InPlace.{words_back, words_read, word_of, first_words, later_words, rest_words, put_within, put_part}
 use Rattle.table.specs.Layout.{row_words}
 use Rattle.table.specs.Table.{Tells, row_start, row, put}
 use Rattle.table.proofs.Slots.{length_row_lem}
@@ -42,7 +42,7 @@ length_in b = length_words b 0 (length b / word_size)
 pub run_out : (b xs : List ℕ) (k from : ℕ) → AllBytes b → k + length xs ≤ length b / word_size → from ≡ k * word_size → put_words b from xs ≡ table_out b (sets (table_in b) k xs)
 run_out b xs k from each h e =
     let q : 0 + k * word_size ≡ from = omega (arith, e) in
-    sym (put-within xs b 0 (length b / word_size) k each (omega arith) (omega arith) ∙ ap (λ (x : ℕ). put_words b x xs) q)
+    sym (put_within xs b 0 (length b / word_size) k each (omega arith) (omega arith) ∙ ap (λ (x : ℕ). put_words b x xs) q)
 
 pub row_out : (b xs : List ℕ) (slot from : ℕ) → AllBytes b → length xs ≡ row_words → row_start (slot + 1) ≤ length b / word_size → from ≡ row_start slot * word_size
     → put_words b from xs ≡ table_out b (put (table_in b) slot xs)
@@ -59,7 +59,7 @@ part_out b xs slot from to at each n h order end before after e =
     let q : start + from * word_size ≡ at = omega (arith, e) in
     ap (λ (k : ℕ). put_words b k (part xs from (to - from))) (sym q)
     ∙ sym
-    (put-part xs b start row_words from to each n (omega arith) order end
+    (put_part xs b start row_words from to each n (omega arith) order end
     (before ∙ ap (take from) own ∙ first_words b start row_words from (omega arith))
     (after ∙ ap (drop to) own ∙ rest_words b start row_words to))
     ∙ row_out b xs slot start each n h refl
@@ -96,7 +96,7 @@ parts_out b xs slot from mid at next each n h order end before e f =
 
 -- a region's own words, put back
 pub own_region : (b : List ℕ) → AllBytes b → table_out b (table_in b) ≡ b
-own_region b each = own-words (length b / word_size) 0 b b each refl (omega arith)
+own_region b each = own_words (length b / word_size) 0 b b each refl (omega arith)
 
 -- other words, put there and read again: as many as the region has, and each a word
 pub table_back : (b ws : List ℕ) → length ws ≡ length b / word_size → AllWords ws → table_in (table_out b ws) ≡ ws

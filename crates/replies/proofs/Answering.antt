@@ -43,10 +43,10 @@ pub handing :
 handing s n w d before after e l f b = rw (eq-eqb s 0 e) (granting n w d before after l f b)
 
 -- an answer and a notice beside it allow one reply, and one buffer
-pub one-outcome :
+pub one_outcome :
     (a : Answer) (before x y : List ℕ) (r q : Reply) → Replied a before r x → Replied a before q y → r.notice ≡ q.notice
     → (r ≡ q) × (x ≡ y)
-one-outcome a before x y r q h k n =
+one_outcome a before x y r q h k n =
     let e : replying r.status r.dword r.len r.notice ≡ replying q.status q.dword q.len q.notice
     = rw (h.status, h.dword, h.len, k.status, k.dword, k.len, n) in
     (e, h.buffer ∙ sym k.buffer)

@@ -76,11 +76,11 @@ is_identify ReadAggregate h = absurd (false≢true h)
 is_identify EventRequest h = absurd (false≢true h)
 is_identify Identify h = refl
 
-identify-answer :
+identify_answer :
     (c : Card) (bytes given : List ℕ) (room : ℕ) → kind_of (command_in bytes) ≡ Identify → refusal_of c (command bytes given room) ≡ 0
     → answer c (command bytes given room) ≡ granted 0 (identify_page (asked (command_in bytes)) (attributes_of c.sets))
 unfolding answer refusal_of
-identify-answer c bytes given room k h = let m = command_is bytes given room Identify k in rw (m, rw m at h)
+identify_answer c bytes given room k h = let m = command_is bytes given room Identify k in rw (m, rw m at h)
 
 module _ (c : Card) (bytes given : List ℕ) (room : ℕ) (came : List ℕ) (r : pages.Reads came (answer c (command bytes given room)).bytes) where
   asked_by : (b : Bool) → is_set_list (kind_of (command_in bytes)) && eqb (answer c (command bytes given room)).status success ≡ b
@@ -89,7 +89,7 @@ module _ (c : Card) (bytes given : List ℕ) (room : ℕ) (came : List ℕ) (r :
   asked_by true e =
       let t = both (is_set_list (kind_of (command_in bytes))) _ e in
       let s : (answer c (command bytes given room)).status ≡ 0 = eqb-true (answer c (command bytes given room)).status success t.1 in
-      let a = identify-answer c bytes given room (is_identify (kind_of (command_in bytes)) t.0) (not_refused c (command bytes given room) s) in
+      let a = identify_answer c bytes given room (is_identify (kind_of (command_in bytes)) t.0) (not_refused c (command bytes given room) s) in
       let page : (answer c (command bytes given room)).bytes ≡ identify_page (asked (command_in bytes)) (attributes_of c.sets) = ap (λ (x : Answer). x.bytes) a in
       (subst (pages.Reads came) page r, tt)
 
@@ -139,7 +139,7 @@ module _ (bytes : List ℕ) (room : ℕ) (a : AsksList bytes room) where
       rw (command_is bytes given room Identify list_kind, list_whole, a.identifies, a.lists_sets, le-ltb room identify_size a.roomy, le-ltb (length given) 0 (omega arith))
 
 pub ask_answered : AskAnswered
-ask_answered c bytes given room a = ap (λ (x : Answer). x.status) (identify-answer c bytes given room (list_kind bytes room a) (list_done bytes room a c given))
+ask_answered c bytes given room a = ap (λ (x : Answer). x.status) (identify_answer c bytes given room (list_kind bytes room a) (list_done bytes room a c given))
 
 -- ---- a host that asks so
 
@@ -161,7 +161,7 @@ from_asked from h =
 
 from_page : (c : Card) (from : ℕ) → from ≤ number_maximum → answer c (identify_from from) ≡ granted 0 (identify_page from (attributes_of c.sets))
 from_page c from h =
-    identify-answer c (identify_command from) [] identify_size (from_kind from) (list_done (identify_command from) identify_size (from_asks from) c [])
+    identify_answer c (identify_command from) [] identify_size (from_kind from) (list_done (identify_command from) identify_size (from_asks from) c [])
     ∙ ap (λ (n : ℕ). granted 0 (identify_page n (attributes_of c.sets))) (from_asked from h)
 
 -- the ask that it is

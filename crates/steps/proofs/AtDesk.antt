@@ -90,9 +90,9 @@ does (command bytes given room) d = by_kind (kind_of (command_in bytes)) (comman
 not_full : (b : Bool) (n : ℕ) → leb requests_maximum n ≡ b → b ≡ false → n < requests_maximum
 not_full b n e h = leb-false requests_maximum n (e ∙ h)
 
-pub request-few :
+pub request_few :
     (c : Command) (given room : ℕ) (ws : List ℕ) → first_of (view_lines EventRequest c given room (length ws)) ≡ 0 → length ws < requests_maximum
-request-few c given room ws z =
+request_few c given room ws z =
     let e = early_passed c (short_line EventRequest c given room ∷ request_line EventRequest (length ws) ∷ []) refl z in
     let p = passed (short_line EventRequest c given room ∷ request_line EventRequest (length ws) ∷ []) refl e.later in
     not_full _ (length ws) refl p.1.0
@@ -108,22 +108,22 @@ no_more : (ws : List ℕ) → Queue ws → Queue (ws ++ [])
 no_more ws q = rw (append-nil ws) q
 
 -- what waits after an item that is carried out, by itself
-kind-queue :
+kind_queue :
     (k : Kind) (c : Command) (given : List ℕ) (room : ℕ) (d : Card) → Queue d.desk.waiting → refusal_by (meaning_by k c given room) d ≡ 0
     → Queue (d.desk.waiting ++ request_of k c)
-kind-queue SetNotices c given room d q z = no_more d.desk.waiting q
-kind-queue SetConfig c given room d q z = no_more d.desk.waiting q
-kind-queue SetWindow c given room d q z = no_more d.desk.waiting q
-kind-queue GetNotices c given room d q z = no_more d.desk.waiting q
-kind-queue GetConfig c given room d q z = no_more d.desk.waiting q
-kind-queue GetWindow c given room d q z = no_more d.desk.waiting q
-kind-queue ReadLatency c given room d q z = no_more d.desk.waiting q
-kind-queue ReadAggregate c given room d q z = no_more d.desk.waiting q
-kind-queue EventRequest c given room d q z =
+kind_queue SetNotices c given room d q z = no_more d.desk.waiting q
+kind_queue SetConfig c given room d q z = no_more d.desk.waiting q
+kind_queue SetWindow c given room d q z = no_more d.desk.waiting q
+kind_queue GetNotices c given room d q z = no_more d.desk.waiting q
+kind_queue GetConfig c given room d q z = no_more d.desk.waiting q
+kind_queue GetWindow c given room d q z = no_more d.desk.waiting q
+kind_queue ReadLatency c given room d q z = no_more d.desk.waiting q
+kind_queue ReadAggregate c given room d q z = no_more d.desk.waiting q
+kind_queue EventRequest c given room d q z =
     let ws = d.desk.waiting in
-    let l = request-few c (length given) room ws z in
+    let l = request_few c (length given) room ws z in
     record { few = omega (arith, l, length-append ws (identifier c ∷ [])); ids = queued_ids ws (identifier c) q.ids (identifier_small c) }
-kind-queue Identify c given room d q z = no_more d.desk.waiting q
+kind_queue Identify c given room d q z = no_more d.desk.waiting q
 
 queue_after : (i : Item) (c : Card) → Queue c.desk.waiting → refusal_of c i ≡ 0 → Queue (c.desk.waiting ++ request_in i)
 unfolding refusal_of meaning command_meaning
@@ -131,7 +131,7 @@ queue_after (reads id k) c q z = no_more c.desk.waiting q
 queue_after (writes id k) c q z = no_more c.desk.waiting q
 queue_after (excursion id) c q z = no_more c.desk.waiting q
 queue_after (tick t room) c q z = no_more c.desk.waiting q
-queue_after (command bytes given room) c q z = kind-queue (kind_of (command_in bytes)) (command_in bytes) given room c q z
+queue_after (command bytes given room) c q z = kind_queue (kind_of (command_in bytes)) (command_in bytes) given room c q z
 
 legal_queue : (d : Desk) → legal_desk d ≡ true → Queue d.waiting
 legal_queue d h = record { few = few d h; ids = (fine d h).ids }

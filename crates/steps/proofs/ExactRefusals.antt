@@ -21,7 +21,7 @@ use Rattle.record.specs.declared.State.{State}
 use Rattle.replies.specs.Status.{Line, line, first_of}
 use Rattle.replies.specs.Answers.{refused, refusing, Replied}
 use Rattle.replies.proofs.Rows.{first_append}
-use Rattle.replies.proofs.Answering.{one-outcome, refused_reply}
+use Rattle.replies.proofs.Answering.{one_outcome, refused_reply}
 use Rattle.table.specs.Table.{records_of, legal_table}
 use Rattle.commands.specs.declared.Command.{Command}
 use Rattle.commands.specs.declared.Kind.{Kind}
@@ -47,7 +47,7 @@ use Rattle.steps.proofs.OnWords.{refused_words}
 use Rattle.steps.proofs.NewSets.{done, not_done, legal_set_up}
 use Rattle.steps.proofs.ItemShapes.{bool_cases}
 use Rattle.steps.proofs.NamedItems.{meaning_media}
-use Rattle.steps.proofs.StepOnWords.{step_bad, step-legal}
+use Rattle.steps.proofs.StepOnWords.{step_bad, step_legal}
 
 -- ---- rows, and the numbers of items that were carried out
 
@@ -177,7 +177,7 @@ not_refused c i z = eqb-true _ 0 (sym (number_tells c i) ∙ ap carried_out z)
 pub number_tells_words : (ws : List ℕ) (i : Item) → carried_out (step_words ws i).answer.status ≡ eqb (refusal_words ws i) 0
 number_tells_words ws i =
     ⊎_elim
-    (λ e. rw (step-legal ws i e, e) (number_tells (card_of ws) i))
+    (λ e. rw (step_legal ws i e, e) (number_tells (card_of ws) i))
     (λ e. rw (step_bad ws i e, e))
     (bool_cases (legal_table ws))
 
@@ -186,7 +186,7 @@ number_tells_words ws i =
 -- an item, by the rows that give its refusal
 -- where nothing refuses it, its table is legal
 carried_words : (ws : List ℕ) (i : Item) (b : Bool) → legal_table ws ≡ b → refusal_words ws i ≡ 0 → (step_words ws i).answer.status ≡ carried_status i
-carried_words ws i true e z = rw (step-legal ws i e) (carried_out_lem (card_of ws) i (rw e at z))
+carried_words ws i true e z = rw (step_legal ws i e) (carried_out_lem (card_of ws) i (rw e at z))
 carried_words ws i false e z = let y : bad_table ≡ 0 = rw e at z in omega arith
 
 told_item : (rows : List Line) (ws : List ℕ) (i : Item) → refusal_words ws i ≡ first_of rows → ByRows rows (carried_status i) (step_words ws i).answer.status
@@ -225,12 +225,12 @@ no_queue ReadAggregate h = refl
 no_queue EventRequest h = absurd (false≢true h)
 no_queue Identify h = refl
 
-named-below :
+named_below :
     (k : Kind) (c : Command) (given : List ℕ) (room waiting : ℕ) → is_named k ≡ true → (set : Option Record)
     → refusal_one (named k c given room) set ≡ first_of (early_lines c ++ below k c (length given) room waiting set)
 unfolding below
-named-below k c given room waiting h none = same_below c (line true unknown_number ∷ []) (below k c (length given) room waiting none) (rw h)
-named-below k c given room waiting h (some r) =
+named_below k c given room waiting h none = same_below c (line true unknown_number ∷ []) (below k c (length given) room waiting none) (rw h)
+named_below k c given room waiting h (some r) =
     same_below c (late_lines k c (length given) room r.state) (below k c (length given) room waiting (some r)) (rw (and-false (is_named k), no_queue k h))
 
 -- the rows that look at the window look at no command that names no set
@@ -250,31 +250,31 @@ no_row : (k : Kind) (c : Command) (set : Option Record) → is_named k ≡ false
 no_row k c none h = (refl, refl)
 no_row k c (some r) h = let n = no_window_lem k h in (rw (n.0, n.1), rw n.1)
 
-viewed-below :
+viewed_below :
     (k : Kind) (c : Command) (given room waiting : ℕ) (set : Option Record) → is_named k ≡ false
     → first_of (view_lines k c given room waiting) ≡ first_of (early_lines c ++ below k c given room waiting set)
 unfolding below
-viewed-below k c given room waiting set h =
+viewed_below k c given room waiting set h =
     let w = no_row k c set h in
     same_below c (short_line k c given room ∷ request_line k waiting ∷ []) (below k c given room waiting set) (rw (h, w.0, w.1))
 
-by-naming-rows :
+by_naming_rows :
     (b : Bool) (k : Kind) (c : Command) (given : List ℕ) (room : ℕ) (card : Card) → is_named k ≡ b
     → refusal_by (if b then The (named_by k c) (named k c given room) else Nobody (viewed k c (length given) room)) card
     ≡ first_of (early_lines c ++ below k c (length given) room (length card.desk.waiting) (first (has (named_by k c)) card.sets))
-by-naming-rows true k c given room card h = named-below k c given room (length card.desk.waiting) h (first (has (named_by k c)) card.sets)
-by-naming-rows false k c given room card h = viewed-below k c (length given) room (length card.desk.waiting) _ h
+by_naming_rows true k c given room card h = named_below k c given room (length card.desk.waiting) h (first (has (named_by k c)) card.sets)
+by_naming_rows false k c given room card h = viewed_below k c (length given) room (length card.desk.waiting) _ h
 
-command-rows :
+command_rows_lem :
     (ws bytes given : List ℕ) (room : ℕ) (b : Bool) → legal_table ws ≡ b
     → refusal_words ws (command bytes given room) ≡ first_of (command_rows ws bytes given room)
 unfolding refusal_of meaning command_meaning below
-command-rows ws bytes given room true e = rw e (by-naming-rows (is_named (kind_of (command_in bytes))) (kind_of (command_in bytes)) (command_in bytes) given room (card_of ws) refl)
-command-rows ws bytes given room false e = rw e
+command_rows_lem ws bytes given room true e = rw e (by_naming_rows (is_named (kind_of (command_in bytes))) (kind_of (command_in bytes)) (command_in bytes) given room (card_of ws) refl)
+command_rows_lem ws bytes given room false e = rw e
 
 pub exactly : Exactly
 exactly ws bytes given room =
-    told_item (command_rows ws bytes given room) ws (command bytes given room) (command-rows ws bytes given room (legal_table ws) refl)
+    told_item (command_rows ws bytes given room) ws (command bytes given room) (command_rows_lem ws bytes given room (legal_table ws) refl)
 
 event_below : (ws : List ℕ) (id : ℕ) (m : Media) (set : Option Record) → refusal_one (event (media_rule m)) set ≡ first_of (line (not (is_there set)) unknown_set ∷ [])
 event_below ws id m none = refl
@@ -310,7 +310,7 @@ refused_buffer ws i before r words buffer n h =
     let s = refusal_words ws i in
     let p : Replied (refused s) before r buffer = rw d at h.reply in
     let n : r.notice ≡ Unsent = rw d at h.notice in
-    let o = one-outcome (refused s) before buffer before r (refusing s) p (refused_reply s before) n in
+    let o = one_outcome (refused s) before buffer before r (refusing s) p (refused_reply s before) n in
     (o.0, rw d at h.table, o.1)
 
 pub refused_handed : RefusedHanded

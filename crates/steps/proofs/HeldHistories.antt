@@ -51,7 +51,7 @@ module _ (H : Holder) (S : Steps H) where
 
   module _ (h : H.Held) (c : Called H) (cs : List (Called H)) (e : legal_table (H.words h) ≡ true) (u : History H h (c ∷ cs)) where
     next : H.words c.held ≡ (step_words (H.words h) (H.item c.lent)).table
-    next = S.words-after h c.lent c.back c.held e u.0
+    next = S.words_after h c.lent c.back c.held e u.0
 
     legal_next : legal_table (H.words c.held) ≡ true
     legal_next = rw next (step_keeps (H.words h) (H.item c.lent) e)
@@ -143,15 +143,15 @@ module _ (H : Holder) (S : Steps H) where
 
   -- ---- two neighbours in each other's place
 
-  shown-append :
+  shown_append :
       (ls ms : List H.Lent) (xs ys : List Answer) (ns os : List Notice) → length ls ≡ length xs → length ls ≡ length ns
       → shown_with H (ls ++ ms) (xs ++ ys) (ns ++ os) ≡ shown_with H ls xs ns ++ shown_with H ms ys os
-  shown-append [] ms [] ys [] os e f = refl
-  shown-append [] ms [] ys (n ∷ ns) os e f = absurd (omega arith)
-  shown-append [] ms (x ∷ xs) ys ns os e f = absurd (omega arith)
-  shown-append (l ∷ ls) ms [] ys ns os e f = absurd (omega arith)
-  shown-append (l ∷ ls) ms (x ∷ xs) ys [] os e f = absurd (omega arith)
-  shown-append (l ∷ ls) ms (x ∷ xs) ys (n ∷ ns) os e f = ap (λ (t : List H.Back). H.shows l x n ∷ t) (shown-append ls ms xs ys ns os (omega arith) (omega arith))
+  shown_append [] ms [] ys [] os e f = refl
+  shown_append [] ms [] ys (n ∷ ns) os e f = absurd (omega arith)
+  shown_append [] ms (x ∷ xs) ys ns os e f = absurd (omega arith)
+  shown_append (l ∷ ls) ms [] ys ns os e f = absurd (omega arith)
+  shown_append (l ∷ ls) ms (x ∷ xs) ys [] os e f = absurd (omega arith)
+  shown_append (l ∷ ls) ms (x ∷ xs) ys (n ∷ ns) os e f = ap (λ (t : List H.Back). H.shows l x n ∷ t) (shown_append ls ms xs ys ns os (omega arith) (omega arith))
 
   length_trace : (is : List Item) (ws : List ℕ) → length (trace_words ws is) ≡ length is
   length_trace [] ws = refl
@@ -164,11 +164,11 @@ module _ (H : Holder) (S : Steps H) where
   items_lent : (cs : List (Called H)) → items H cs ≡ map H.item (lents H cs)
   items_lent cs = sym (map-map H.item (λ (c : Called H). c.lent) cs)
 
-  ended-any :
+  ended_any :
       (cs : List (Called H)) (h : H.Held) → 1 ≤ length cs → legal_table (H.words h) ≡ true → History H h cs
       → last H h cs ≡ H.with_words h (run_words (H.words h) (items H cs))
-  ended-any [] h l e u = absurd (omega arith)
-  ended-any (c ∷ cs) h l e u = ended cs h c e u
+  ended_any [] h l e u = absurd (omega arith)
+  ended_any (c ∷ cs) h l e u = ended cs h c e u
 
   module _ (h : H.Held) (cs : List (Called H)) (before : List H.Lent) (i j : H.Lent) (later : List H.Lent) (e : legal_table (H.words h) ≡ true) (u : History H h cs) (ec : lents H cs ≡ before ++ i ∷ j ∷ later) where
     lent_items : items H cs ≡ map H.item before ++ H.item i ∷ H.item j ∷ map H.item later
@@ -180,7 +180,7 @@ module _ (H : Holder) (S : Steps H) where
         omega (arith, n, length-append before (i ∷ j ∷ later))
 
     held_after : last H h cs ≡ H.with_words h (run_words (H.words h) (map H.item before ++ H.item i ∷ H.item j ∷ map H.item later))
-    held_after = ended-any cs h not_none e u ∙ ap (λ (is : List Item). H.with_words h (run_words (H.words h) is)) lent_items
+    held_after = ended_any cs h not_none e u ∙ ap (λ (is : List Item). H.with_words h (run_words (H.words h) is)) lent_items
 
     handed :
         (xs : List Answer) (x y : Answer) (zs : List Answer) (ns : List Notice) (n m : Notice) (os : List Notice)
@@ -193,7 +193,7 @@ module _ (H : Holder) (S : Steps H) where
         ∙ ap (λ (ls : List H.Lent). shown_with H ls (trace_words (H.words h) (items H cs)) (told_words (H.words h) (items H cs))) ec
         ∙ ap (λ (is : List Item). shown_with H (before ++ i ∷ j ∷ later) (trace_words (H.words h) is) (told_words (H.words h) is)) lent_items
         ∙ ap₂ (λ (ans : List Answer) (bs : List Notice). shown_with H (before ++ i ∷ j ∷ later) ans bs) t o
-        ∙ shown-append before (i ∷ j ∷ later) xs (x ∷ y ∷ zs) ns (n ∷ m ∷ os) many told
+        ∙ shown_append before (i ∷ j ∷ later) xs (x ∷ y ∷ zs) ns (n ∷ m ∷ os) many told
 
   pub swaps_back : SwapsBack H
   swaps_back h cs ds before i j later a b e u v ec ed p q n =
@@ -213,8 +213,8 @@ module _ (H : Holder) (S : Steps H) where
           then_other = _;
           beside_other = _;
           then_one = _;
-          first_way = handed h cs before i j later e u ec _ _ _ _ _ _ _ _ many told w.one_way w.told-one-way;
-          second_way = handed h ds before j i later e v ed _ _ _ _ _ _ _ _ many told w.other_way w.told-other-way;
+          first_way = handed h cs before i j later e u ec _ _ _ _ _ _ _ _ many told w.one_way w.told_one_way;
+          second_way = handed h ds before j i later e v ed _ _ _ _ _ _ _ _ many told w.other_way w.told_other_way;
           same_notices = w.same_notices;
         },
       )
@@ -226,10 +226,10 @@ module _ (H : Holder) (S : Steps H) where
   card_after h cs e u = ap card_of (ran h cs e u) ∙ (words_run (H.words h) (items H cs) e).card
 
   -- the answer to one more call, and its notice
-  said-after :
+  said_after :
       (h : H.Held) (cs : List (Called H)) (d : Called H) → legal_table (H.words h) ≡ true → History H h cs → H.Call (last H h cs) d.lent d.back d.held
       → let C = run (card_of (H.words h)) (items H cs) in d.back ≡ H.shows d.lent (answer C (H.item d.lent)) (step C (H.item d.lent)).notice
-  said-after h cs d e u p =
+  said_after h cs d e u p =
       let l = stays_legal h cs e u in
       S.said (last H h cs) d.lent d.back d.held p
       ∙ ap₂ (H.shows d.lent)
@@ -243,40 +243,40 @@ module _ (H : Holder) (S : Steps H) where
   -- one call by itself
   module _ (h : H.Held) (c : Called H) (e : legal_table (H.words h) ≡ true) (u : H.Call h c.lent c.back c.held) where
     status_one : (answer (card_of (H.words h)) (H.item c.lent)).status ≡ H.status c.back
-    status_one = told_status c _ _ (said-after h [] c e tt u)
+    status_one = told_status c _ _ (said_after h [] c e tt u)
 
     card_one : card_of (H.words c.held) ≡ (step (card_of (H.words h)) (H.item c.lent)).card
-    card_one = ap card_of (S.words-after h c.lent c.back c.held e u) ∙ step_back (H.words h) (H.item c.lent) e
+    card_one = ap card_of (S.words_after h c.lent c.back c.held e u) ∙ step_back (H.words h) (H.item c.lent) e
 
     notice_one : H.hears c.lent ≡ true → H.notice c.back ≡ (step (card_of (H.words h)) (H.item c.lent)).notice
     notice_one r =
-        ap H.notice (said-after h [] c e tt u)
+        ap H.notice (said_after h [] c e tt u)
         ∙ S.heard c.lent _ _ r (notice_small (card_of (H.words h)) (H.item c.lent) (desk_legal_lem (H.words h) (desk_there (H.words h) (legal_known (H.words h) e))))
 
-  none-configures :
+  none_configures_lem :
       (id : ℕ) (h : H.Held) (cs : List (Called H)) → legal_table (H.words h) ≡ true → History H h cs → none_done H (configures id) cs ≡ true
       → none_configures (card_of (H.words h)) id (items H cs) ≡ true
-  none-configures id h [] e u n = refl
-  none-configures id h (c ∷ cs) e u n =
+  none_configures_lem id h [] e u n = refl
+  none_configures_lem id h (c ∷ cs) e u n =
       let i = H.item c.lent in
       let C = card_of (H.words h) in
       let p = both (not (configures id i && carried_out (H.status c.back))) _ n in
       together (not (configures id i && carried_out (answer C i).status)) (none_configures (step C i).card id (items H cs))
       (subst (λ (x : ℕ). not (configures id i && carried_out x) ≡ true) (sym (status_one h c e u.0)) p.0)
-      (subst (λ (x : Card). none_configures x id (items H cs) ≡ true) (card_one h c e u.0) (none-configures id c.held cs (legal_next h c cs e u) u.1 p.1))
+      (subst (λ (x : Card). none_configures x id (items H cs) ≡ true) (card_one h c e u.0) (none_configures_lem id c.held cs (legal_next h c cs e u) u.1 p.1))
 
-  none_moves :
+  none_moves_lem :
       (id : ℕ) (h : H.Held) (cs : List (Called H)) → legal_table (H.words h) ≡ true → History H h cs → none_moved H id h cs ≡ true
       → none_moves (card_of (H.words h)) id (items H cs) ≡ true
-  none_moves id h [] e u n = refl
-  none_moves id h (c ∷ cs) e u n =
+  none_moves_lem id h [] e u n = refl
+  none_moves_lem id h (c ∷ cs) e u n =
       let i = H.item c.lent in
       let C = card_of (H.words h) in
       let p = both (eqb (window_of (card_of (H.words c.held)) id) (window_of C id)) _ n in
       let k : card_of (H.words c.held) ≡ (step C i).card = card_one h c e u.0 in
       together (eqb (window_of (step C i).card id) (window_of C id)) (none_moves (step C i).card id (items H cs))
       (subst (λ (x : Card). eqb (window_of x id) (window_of C id) ≡ true) k p.0)
-      (subst (λ (x : Card). none_moves x id (items H cs) ≡ true) k (none_moves id c.held cs (legal_next h c cs e u) u.1 p.1))
+      (subst (λ (x : Card). none_moves x id (items H cs) ≡ true) k (none_moves_lem id c.held cs (legal_next h c cs e u) u.1 p.1))
 
   -- what a first call leaves and answers, and what the last one answers, where the items are commands
   module _ (h : H.Held) (c : Called H) (cs : List (Called H)) (d : Called H) (i j : Item) (e : legal_table (H.words h) ≡ true) (u : History H h (c ∷ cs)) (p : H.Call (last H h (c ∷ cs)) d.lent d.back d.held) (mi : H.item c.lent ≡ i) (mj : H.item d.lent ≡ j) (zi : H.status c.back ≡ 0) (zj : H.status d.back ≡ 0) where
@@ -292,7 +292,7 @@ module _ (H : Holder) (S : Steps H) where
     said_last : d.back ≡ H.shows d.lent (answer last_card j) (step last_card j).notice
     unfolding last_card
     said_last =
-        said-after h (c ∷ cs) d e u p
+        said_after h (c ∷ cs) d e u p
         ∙ ap (λ (x : Item). let C = run (card_of (H.words h)) (x ∷ items H cs) in H.shows d.lent (answer C (H.item d.lent)) (step C (H.item d.lent)).notice) mi
         ∙ ap (λ (x : Item). let C = run (card_of (H.words h)) (i ∷ items H cs) in H.shows d.lent (answer C x) (step C x).notice) mj
 
@@ -308,7 +308,7 @@ module _ (H : Holder) (S : Steps H) where
   config_handed h c cs d bytes given room bytes' given' room' e u p mi each ki zi n mj kj q zj =
       let i = command bytes given room in
       let j = command bytes' given' room' in
-      let none = subst (λ (x : Card). none_configures x (feature_set (command_in bytes)) (items H cs) ≡ true) (after_first h c cs d i j e u p mi mj zi zj) (none-configures (feature_set (command_in bytes)) c.held cs (legal_next h c cs e u) u.1 n) in
+      let none = subst (λ (x : Card). none_configures x (feature_set (command_in bytes)) (items H cs) ≡ true) (after_first h c cs d i j e u p mi mj zi zj) (none_configures_lem (feature_set (command_in bytes)) c.held cs (legal_next h c cs e u) u.1 n) in
       back_last h c cs d i j e u p mi mj zi zj
       ∙ ap (λ (x : Answer). H.shows d.lent x Unsent)
       (config_stored (card_of (H.words h)) bytes given room (items H cs) bytes' given' room' each ki (done_first h c cs d i j e u p mi mj zi zj) none kj q (done_last h c cs d i j e u p mi mj zi zj))
@@ -317,28 +317,28 @@ module _ (H : Holder) (S : Steps H) where
   window_handed h c cs d bytes given room bytes' given' room' e u p mi ki zi n mj kj q zj =
       let i = command bytes given room in
       let j = command bytes' given' room' in
-      let none = subst (λ (x : Card). none_moves x (feature_set (command_in bytes)) (items H cs) ≡ true) (after_first h c cs d i j e u p mi mj zi zj) (none_moves (feature_set (command_in bytes)) c.held cs (legal_next h c cs e u) u.1 n) in
+      let none = subst (λ (x : Card). none_moves x (feature_set (command_in bytes)) (items H cs) ≡ true) (after_first h c cs d i j e u p mi mj zi zj) (none_moves_lem (feature_set (command_in bytes)) c.held cs (legal_next h c cs e u) u.1 n) in
       back_last h c cs d i j e u p mi mj zi zj
       ∙ ap (λ (x : Answer). H.shows d.lent x Unsent)
       (window_stored (card_of (H.words h)) bytes given room (items H cs) bytes' given' room' ki (done_first h c cs d i j e u p mi mj zi zj) none kj q (done_last h c cs d i j e u p mi mj zi zj))
 
-  none-turns :
+  none_turns_lem :
       (h : H.Held) (cs : List (Called H)) → legal_table (H.words h) ≡ true → History H h cs → none_done H turns_notices cs ≡ true
       → none_turns (card_of (H.words h)) (items H cs) ≡ true
-  none-turns h [] e u n = refl
-  none-turns h (c ∷ cs) e u n =
+  none_turns_lem h [] e u n = refl
+  none_turns_lem h (c ∷ cs) e u n =
       let i = H.item c.lent in
       let C = card_of (H.words h) in
       let p = both (not (turns_notices i && carried_out (H.status c.back))) _ n in
       together (not (turns_notices i && carried_out (answer C i).status)) (none_turns (step C i).card (items H cs))
       (subst (λ (x : ℕ). not (turns_notices i && carried_out x) ≡ true) (sym (status_one h c e u.0)) p.0)
-      (subst (λ (x : Card). none_turns x (items H cs) ≡ true) (card_one h c e u.0) (none-turns c.held cs (legal_next h c cs e u) u.1 p.1))
+      (subst (λ (x : Card). none_turns x (items H cs) ≡ true) (card_one h c e u.0) (none_turns_lem c.held cs (legal_next h c cs e u) u.1 p.1))
 
   pub notices_handed : NoticesBack H
   notices_handed h c cs d bytes given room bytes' given' room' e u p mi ki zi n mj kj zj =
       let i = command bytes given room in
       let j = command bytes' given' room' in
-      let none = subst (λ (x : Card). none_turns x (items H cs) ≡ true) (after_first h c cs d i j e u p mi mj zi zj) (none-turns c.held cs (legal_next h c cs e u) u.1 n) in
+      let none = subst (λ (x : Card). none_turns x (items H cs) ≡ true) (after_first h c cs d i j e u p mi mj zi zj) (none_turns_lem c.held cs (legal_next h c cs e u) u.1 n) in
       back_last h c cs d i j e u p mi mj zi zj
       ∙ ap (λ (x : Answer). H.shows d.lent x Unsent)
       (notices_stored (card_of (H.words h)) bytes given room (items H cs) bytes' given' room' ki (done_first h c cs d i j e u p mi mj zi zj) none kj (done_last h c cs d i j e u p mi mj zi zj))

@@ -22,7 +22,7 @@ words_steps : Steps held_words
 words_steps =
     record {
       after = λ ws l b vs e u. u.table;
-      words-after = λ ws l b vs e u. u.table;
+      words_after = λ ws l b vs e u. u.table;
       said = λ ws l b vs u i.
           record {
             reply = record { status = u.reply.status i; dword = u.reply.dword i; len = u.reply.len i; notice = u.notice i };
@@ -46,7 +46,7 @@ part_steps : Steps held_part
 part_steps =
     record {
       after = λ ws l b vs e u. u.table;
-      words-after = λ ws l b vs e u. u.table;
+      words_after = λ ws l b vs e u. u.table;
       said = λ ws l b vs u i. record { status = u.status_is i; dword = u.dword_is i; told = u.told_is i; to = u.to_is i; part = u.part_is i };
       told = λ l a n. refl;
       seen = λ ws l b vs u at n h. ap (λ (x : List ℕ). part x at n) u.part_is;

@@ -36,26 +36,26 @@ pub unnamed : (i : Item) (n id : ℕ) → concerns n id i ≡ false → names id
 unnamed i n id e = ⊎_elim (λ t. cc (named i id n id t, eq-eqb id id refl)) (λ f. f) (bool_cases (names id i))
 
 -- and its answer rests on what the look-up of a gives
-answer-by :
+answer_by_lem :
     (m : Meaning) (a : ℕ) (c d : Card) → names_by m a ≡ true → first (has a) c.sets ≡ first (has a) d.sets → answer_by m c ≡ answer_by m d
-answer-by (Nobody v) a c d e h = cc
-answer-by (Everybody v) a c d e h = cc
-answer-by (The b o) a c d e h = rw (eqb-true b a e, h)
+answer_by_lem (Nobody v) a c d e h = cc
+answer_by_lem (Everybody v) a c d e h = cc
+answer_by_lem (The b o) a c d e h = rw (eqb-true b a e, h)
 
 pub answers : (i : Item) (a : ℕ) (c d : Card) → names a i ≡ true → first (has a) c.sets ≡ first (has a) d.sets → answer c i ≡ answer d i
 unfolding names answer
-answers i a c d e h = answer-by (meaning i) a c d e h
+answers i a c d e h = answer_by_lem (meaning i) a c d e h
 
 -- and so does its refusal
-refusal-by :
+refusal_by_lem :
     (m : Meaning) (a : ℕ) (c d : Card) → names_by m a ≡ true → first (has a) c.sets ≡ first (has a) d.sets → refusal_by m c ≡ refusal_by m d
-refusal-by (Nobody v) a c d e h = cc
-refusal-by (Everybody v) a c d e h = cc
-refusal-by (The b o) a c d e h = rw (eqb-true b a e, h)
+refusal_by_lem (Nobody v) a c d e h = cc
+refusal_by_lem (Everybody v) a c d e h = cc
+refusal_by_lem (The b o) a c d e h = rw (eqb-true b a e, h)
 
 pub refusals : (i : Item) (a : ℕ) (c d : Card) → names a i ≡ true → first (has a) c.sets ≡ first (has a) d.sets → refusal_of c i ≡ refusal_of d i
 unfolding names refusal_of
-refusals i a c d e h = refusal-by (meaning i) a c d e h
+refusals i a c d e h = refusal_by_lem (meaning i) a c d e h
 
 -- it does nothing to the desk by itself
 desk_by_lem : (m : Meaning) (a : ℕ) (d : Desk) → names_by m a ≡ true → desk_by m d ≡ d

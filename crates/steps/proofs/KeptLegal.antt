@@ -33,7 +33,7 @@ use Rattle.steps.specs.Words.{card_of, step_words}
 use Rattle.steps.proofs.ItemShapes.{bool_cases, touched_own, touched_not, keeps}
 use Rattle.steps.proofs.Slots.{ordered}
 use Rattle.steps.proofs.AtDesk.{desk_kept}
-use Rattle.steps.proofs.StepOnWords.{step-legal}
+use Rattle.steps.proofs.StepOnWords.{step_legal}
 
 -- what is to be shown of each item: its rule keeps a state legal, where it is carried out
 abbrev Sound : Meaning → Type 0
@@ -103,7 +103,7 @@ module _ (ws : List ℕ) (i : Item) (e : legal_table ws ≡ true) where
   fits_again = fitting ws (legal_known ws e) (after (card_of ws) i) (as_many ∙ length_records ws) after_legal (desk_kept (card_of ws) i (desk_legal_lem ws (desk_there ws (legal_known ws e))))
 
   pub step_keeps : legal_table (step_words ws i).table ≡ true
-  step_keeps = rw (step-legal ws i e) (written_legal ws (after (card_of ws) i) fits_again)
+  step_keeps = rw (step_legal ws i e) (written_legal ws (after (card_of ws) i) fits_again)
 
   pub step_back : card_of (step_words ws i).table ≡ (step (card_of ws) i).card
-  step_back = rw (step-legal ws i e) (written_back ws (after (card_of ws) i) fits_again)
+  step_back = rw (step_legal ws i e) (written_back ws (after (card_of ws) i) fits_again)

@@ -25,12 +25,12 @@ meaning_media id (Reads k) = refl
 meaning_media id (Writes k) = refl
 meaning_media id Excursion = refl
 
-by-naming :
+by_naming :
     (b : Bool) (k : Kind) (c : Command) (given : List ℕ) (room id : ℕ)
     → (names_by (if b then The (named_by k c) (named k c given room) else Nobody (viewed k c (length given) room)) id ≡ b && eqb (named_by k c) id)
     × (to_all_by (if b then The (named_by k c) (named k c given room) else Nobody (viewed k c (length given) room)) ≡ false)
-by-naming true k c given room id = (refl, refl)
-by-naming false k c given room id = (refl, refl)
+by_naming true k c given room id = (refl, refl)
+by_naming false k c given room id = (refl, refl)
 
 pub named_items : NamedItems
 unfolding names to_all meaning command_meaning
@@ -38,4 +38,4 @@ named_items id (reads named k) = (refl, refl)
 named_items id (writes named k) = (refl, refl)
 named_items id (excursion named) = (refl, refl)
 named_items id (tick t room) = (refl, refl)
-named_items id (command bytes given room) = by-naming (is_named (kind_of (command_in bytes))) (kind_of (command_in bytes)) (command_in bytes) given room id
+named_items id (command bytes given room) = by_naming (is_named (kind_of (command_in bytes))) (kind_of (command_in bytes)) (command_in bytes) given room id

@@ -95,15 +95,15 @@ legal_set_up bytes ws h = by_status bytes ws _ (eqb (set_up_status bytes (length
 
 -- ---- what set-up leaves where it succeeds, and why
 
-granted-by :
+granted_by :
     (bytes ws : List ℕ) (s : ℕ) (b : Bool) → eqb s 0 ≡ b → (if b then done bytes ws else not_done ws s).answer.status ≡ 0
     → (s ≡ 0) × ((if b then done bytes ws else not_done ws s).table ≡ new_table bytes ws)
-granted-by bytes ws s true q h = (eqb-true s 0 q, refl)
-granted-by bytes ws s false q h = absurd (eqb-false s 0 q h)
+granted_by bytes ws s true q h = (eqb-true s 0 q, refl)
+granted_by bytes ws s false q h = absurd (eqb-false s 0 q h)
 
 pub granted_table : (bytes ws : List ℕ) → (set_up bytes ws).answer.status ≡ 0 → (set_up_status bytes (length ws) ≡ 0) × ((set_up bytes ws).table ≡ new_table bytes ws)
 unfolding set_up
-granted_table bytes ws h = granted-by bytes ws _ (eqb (set_up_status bytes (length ws)) 0) refl h
+granted_table bytes ws h = granted_by bytes ws _ (eqb (set_up_status bytes (length ws)) 0) refl h
 
 -- ---- more sets than a table may have are refused, however many more
 

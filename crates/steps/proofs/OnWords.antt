@@ -15,7 +15,7 @@ use Rattle.table.specs.Card.{header}
 use Rattle.table.specs.Table.{row_start, put, legal_table, written_from, written_rows, written}
 use Rattle.table.proofs.Records.{length_words}
 use Rattle.table.proofs.LegalTables.{legal_known, desk_there}
-use Rattle.table.proofs.Desks.{sets-before, desk_legal_lem}
+use Rattle.table.proofs.Desks.{sets_before, desk_legal_lem}
 use Rattle.replies.specs.Answers.{told_of}
 use Rattle.table.proofs.Written.{written_own}
 use Rattle.steps.specs.Items.{Card, Item}
@@ -24,7 +24,7 @@ use Rattle.steps.specs.Words.{card_of, step_words}
 use Rattle.steps.specs.Demands.{Refused, RefusedWords, run_words, trace_words, told_words, WordsRun, WordsTrace, WordsNotices, WordsSwap}
 use Rattle.steps.proofs.ItemShapes.{bool_cases}
 use Rattle.steps.proofs.Slots.{refused_answer, refused_sets}
-use Rattle.steps.proofs.StepOnWords.{step_bad, step-legal, step-refused}
+use Rattle.steps.proofs.StepOnWords.{step_bad, step_legal, step_refused}
 use Rattle.steps.proofs.KeptLegal.{step_keeps, step_back}
 use Rattle.steps.proofs.OwnHistory.{length_run, swap, swap_within}
 use Rattle.steps.proofs.AtDesk.{at_refused, run_legal}
@@ -35,7 +35,7 @@ refused c i h n = let s = ne_eqb (refusal_of c i) 0 n in rw (refused_answer c i 
 pub refused_words : RefusedWords
 refused_words ws i n =
     ⊎_elim
-    (λ e. rw e (step-refused ws i (refusal_of (card_of ws) i) e refl (rw e at n)))
+    (λ e. rw e (step_refused ws i (refusal_of (card_of ws) i) e refl (rw e at n)))
     (λ e. rw e (step_bad ws i e))
     (bool_cases (legal_table ws))
 
@@ -49,7 +49,7 @@ written_twice ws j (r ∷ rs) [] e = absurd (omega arith)
 written_twice ws j (r ∷ rs) (s ∷ ss) e =
     ap
     (λ (x : List ℕ). written_from x (suc j) ss)
-    (sets-before (put ws j (words_of r)) (row_start j) (suc j) (words_of s) rs (omega (arith, length_words s))
+    (sets_before (put ws j (words_of r)) (row_start j) (suc j) (words_of s) rs (omega (arith, length_words s))
     ∙ ap (λ (x : List ℕ). written_from x (suc j) rs) (sets_over (words_of r) (words_of s) ws (row_start j) (length_words r ∙ sym (length_words s))))
     ∙ written_twice (put ws j (words_of s)) (suc j) rs ss (omega arith)
 
@@ -58,17 +58,17 @@ unfolding written written_rows
 written_over ws c d e =
     ap
     (λ (x : List ℕ). written_from x 0 d.sets)
-    (sets-before (sets ws 0 (header c)) 0 0 (header d) c.sets (omega arith)
+    (sets_before (sets ws 0 (header c)) 0 0 (header d) c.sets (omega arith)
     ∙ ap (λ (x : List ℕ). written_from x 0 c.sets) (sets_over (header c) (header d) ws 0 refl))
     ∙ written_twice (sets ws 0 (header d)) 0 c.sets d.sets e
 
 -- ---- many items
 
 table_words : (ws : List ℕ) (i : Item) → legal_table ws ≡ true → (step_words ws i).table ≡ written ws (after (card_of ws) i)
-table_words ws i e = rw (step-legal ws i e)
+table_words ws i e = rw (step_legal ws i e)
 
 pub answer_words : (ws : List ℕ) (i : Item) → legal_table ws ≡ true → (step_words ws i).answer ≡ answer (card_of ws) i
-answer_words ws i e = rw (step-legal ws i e)
+answer_words ws i e = rw (step_legal ws i e)
 
 pub words_run : WordsRun
 words_run ws [] e = record { legal = e; card = refl; words = sym (written_own ws (legal_known ws e)) }
@@ -83,7 +83,7 @@ words_run ws (i ∷ is) e =
     }
 
 pub notice_words : (ws : List ℕ) (i : Item) → legal_table ws ≡ true → (step_words ws i).notice ≡ (step (card_of ws) i).notice
-notice_words ws i e = rw (step-legal ws i e)
+notice_words ws i e = rw (step_legal ws i e)
 
 pub words_trace : WordsTrace
 words_trace ws [] e = refl
@@ -145,7 +145,7 @@ words_swap ws before i j later a b e p q h =
       other_way =
           words_trace ws ji e ∙ w.other_way
           ∙ cc (words_trace ws before e, answer_later ws before e i, answer_later ws before e j, trace_later ws (before ++ i ∷ j ∷ []) e later);
-      told-one-way = told_append ws before (i ∷ j ∷ later) ∙ rw (run_words_append ws before (i ∷ j ∷ []));
-      told-other-way = told_append ws before (j ∷ i ∷ later) ∙ rw (← middle, run_words_append ws before (j ∷ i ∷ []));
+      told_one_way = told_append ws before (i ∷ j ∷ later) ∙ rw (run_words_append ws before (i ∷ j ∷ []));
+      told_other_way = told_append ws before (j ∷ i ∷ later) ∙ rw (← middle, run_words_append ws before (j ∷ i ∷ []));
       same_notices = two_notices ws before e i j ∙ two.same_notices ∙ sym (two_notices ws before e j i);
     }

@@ -116,12 +116,12 @@ has_same n id i r = rw (keeps n i r)
 
 module _ (n : ℕ) (pos : 1 ≤ n) where
   -- on any card d that holds r alone
-  answers-own :
+  answers_own :
       (is : List Item) (c d : Card) (r : Record) → length c.sets ≡ n → first (has (id_of r)) c.sets ≡ some r → d.sets ≡ r ∷ []
       → beside (names (id_of r)) is (trace c is)
       ≡ beside (names (id_of r)) (keep (concerns n (id_of r)) is) (trace d (keep (concerns n (id_of r)) is))
-  answers-own [] c d r l f s = refl
-  answers-own (i ∷ is) c d r l f s =
+  answers_own [] c d r l f s = refl
+  answers_own (i ∷ is) c d r l f s =
       let N = names (id_of r) in
       let K = keep (concerns n (id_of r)) is in
       let m : length (after c i).sets ≡ n = simp length-map l in
@@ -129,17 +129,17 @@ module _ (n : ℕ) (pos : 1 ≤ n) where
       ⊎_elim
       (λ e.
       let s' : (after d i).sets ≡ ruled i r ∷ [] = rw (s, touched_own 1 i r (fewer i n (id_of r) pos e)) in
-      let ih = answers-own is (after c i) (after d i) (ruled i r) m (f' ∙ ap some (touched_own n i r e)) s' in
+      let ih = answers_own is (after c i) (after d i) (ruled i r) m (f' ∙ ap some (touched_own n i r e)) s' in
       cc (
         e,
         if_cons (N i) (answer c i) (answer d i) (beside N is (trace (after c i) is)) (beside N K (trace (after d i) K))
             (λ q. answers i (id_of r) c d q (rw s (f ∙ sym (only r)))) ih,
       ))
-      (λ e. let ih = answers-own is (after c i) d r m (f' ∙ ap some (touched_not n i r e)) s in cc (e, unnamed i n (id_of r) e, ih))
+      (λ e. let ih = answers_own is (after c i) d r m (f' ∙ ap some (touched_not n i r e)) s in cc (e, unnamed i n (id_of r) e, ih))
       (bool_cases (concerns n (id_of r) i))
 
 pub own_answers : OwnAnswers
-own_answers c is k r h e = rw (own_is c r is) (answers-own (length c.sets) (some_nth k c.sets r e) is c (alone r) r refl (found 0 k c.sets r h e) refl)
+own_answers c is k r h e = rw (own_is c r is) (answers_own (length c.sets) (some_nth k c.sets r e) is c (alone r) r refl (found 0 k c.sets r h e) refl)
 
 -- ---- data of the items that go to every set
 
@@ -161,7 +161,7 @@ joined c is i a m h =
     let n = length c.sets in
     let s : refusal_all a n ≡ 0 = rw (run_sets is c, length-map) at (carried i a m (run c is) h) in
     all_bytes i a m (run c is) _ (run_sets is c) (rw length-map s)
-    ∙ rw map-map (ap join (map_same_if _ _ c.sets (λ l r.
+    ∙ rw (map-map a.part (passed n is) c.sets) (ap join (map_same_if _ _ c.sets (λ l r.
     rw (passed_own n l is r, ← own_is c r is, ← append-nil (a.part (passed 1 (own c r is) r)))
     (sym (all_bytes i a m (run (alone r) (own c r is)) _ (run_sets (own c r is) (alone r)) (fewer_all a n l s))))))
 

@@ -22,7 +22,7 @@ use Rattle.steps.specs.Words.{Result, card_of, unchanged, step_words}
 use Rattle.steps.specs.SetUp.{bodies, new_card, set_up_status, new_table, set_up}
 use Rattle.steps.specs.PastTheTable.{past, beside, NotRead, SetUpNotRead, NotWritten, SetUpNotWritten}
 use Rattle.steps.proofs.ItemShapes.{bool_cases}
-use Rattle.steps.proofs.StepOnWords.{step_bad, step-legal}
+use Rattle.steps.proofs.StepOnWords.{step_bad, step_legal}
 use Rattle.steps.proofs.NewSets.{well, new_length, new_fits, done, not_done}
 use Rattle.steps.proofs.KeptLegal.{fits_again}
 
@@ -42,9 +42,9 @@ module _ (more ws : List ℕ) where
     legal_beside : legal_table ws ≡ true → step_words (ws ++ more) i ≡ beside (step_words ws i) more
     legal_beside e =
         let as_many : length (after (card_of ws) i).sets ≡ count ws = simp length-map (length_records ws) in
-        step-legal (ws ++ more) i (legal_past more ws room ∙ e)
+        step_legal (ws ++ more) i (legal_past more ws room ∙ e)
         ∙ ap stepped (card_past more ws room)
-        ∙ rw (step-legal ws i e, written_past more ws (after (card_of ws) i) (rw as_many room))
+        ∙ rw (step_legal ws i e, written_past more ws (after (card_of ws) i) (rw as_many room))
 
     step_past : step_words (ws ++ more) i ≡ beside (step_words ws i) more
     step_past =
@@ -92,7 +92,7 @@ set_up_not_read more ws bytes room = set_up_past more ws bytes room
 pub length_step : (ws : List ℕ) (i : Item) → length (step_words ws i).table ≡ length ws
 length_step ws i =
     ⊎_elim
-    (λ e. rw (step-legal ws i e) (length_written ws (after (card_of ws) i)))
+    (λ e. rw (step_legal ws i e) (length_written ws (after (card_of ws) i)))
     (λ e. rw (step_bad ws i e))
     (bool_cases (legal_table ws))
 
@@ -114,20 +114,20 @@ step_rest ws i e =
 pub not_written : NotWritten
 not_written ws i =
     record {
-      rest = ⊎_elim (λ e. rw (step-legal ws i e) (step_rest ws i e)) (λ e. rw (step_bad ws i e)) (bool_cases (legal_table ws));
+      rest = ⊎_elim (λ e. rw (step_legal ws i e) (step_rest ws i e)) (λ e. rw (step_bad ws i e)) (bool_cases (legal_table ws));
       long = length_step ws i;
     }
 
-new-rest :
+new_rest :
     (bytes ws : List ℕ) (s : ℕ) (b : Bool) → s ≡ set_up_status bytes (length ws) → eqb s 0 ≡ b
     → past (bodies bytes) (if b then done bytes ws else not_done ws s).table ≡ past (bodies bytes) ws
-new-rest bytes ws s true e q =
+new_rest bytes ws s true e q =
     rw (new_length bytes) at (written_rest ws (new_card bytes) (new_fits bytes ws (well bytes (length ws) s e (eqb-true s 0 q))))
-new-rest bytes ws s false e q = refl
+new_rest bytes ws s false e q = refl
 
 rest_set_up : (bytes ws : List ℕ) → past (bodies bytes) (set_up bytes ws).table ≡ past (bodies bytes) ws
 unfolding set_up
-rest_set_up bytes ws = new-rest bytes ws _ (eqb (set_up_status bytes (length ws)) 0) refl refl
+rest_set_up bytes ws = new_rest bytes ws _ (eqb (set_up_status bytes (length ws)) 0) refl refl
 
 pub set_up_not_written : SetUpNotWritten
 set_up_not_written bytes ws = record { rest = rest_set_up bytes ws; long = length_set_up bytes ws }

@@ -52,7 +52,7 @@ found p (suc k) (x ∷ rs) r h e =
 -- ---- a refusal
 
 settled_still : (r : Record) → settled r (still r.state) ≡ r
-settled_still r = simp or-false (rw (or-false r.notes.listed))
+settled_still r = simp or-false
 
 still_by :
     (m : Meaning) (c : Card) (r : Record) → eqb (refusal_by m c) 0 ≡ false → concerns_by m (length c.sets) (id_of r) ≡ true
@@ -61,11 +61,11 @@ still_by (Nobody v) c r s e f = refl
 still_by (Everybody a) c r s e f = cc
 still_by (The a o) c r s e f = rw (rw (eqb-true a (id_of r) e, f) at s)
 
-refused-still :
+refused_still :
     (c : Card) (i : Item) (r : Record) → eqb (refusal_of c i) 0 ≡ false → first (has (id_of r)) c.sets ≡ some r
     → touched (length c.sets) i r ≡ r
 unfolding effect_on refusal_of concerns
-refused-still c i r s f =
+refused_still c i r s f =
     let n = length c.sets in
     ⊎_elim
     (λ t. touched_own n i r t ∙ ap (settled r) (still_by (meaning i) c r s t f) ∙ settled_still r)
@@ -78,21 +78,21 @@ refused_answer c i s = rw s
 
 -- a refused item changes no set
 pub refused_sets : (c : Card) (i : Item) → legal_sets 0 c.sets ≡ true → eqb (refusal_of c i) 0 ≡ false → (after c i).sets ≡ c.sets
-refused_sets c i h s = map_fixed _ c.sets (λ k r e. refused-still c i r s (found 0 k c.sets r h e))
+refused_sets c i h s = map_fixed _ c.sets (λ k r e. refused_still c i r s (found 0 k c.sets r h e))
 
 -- ---- an item that names a set
 
-one-slot :
+one_slot :
     (f : Record → Record) (p k : ℕ) (rs : List Record) (r : Record) → legal_sets p rs ≡ true → nth k rs ≡ some r
     → ((y : Record) → (id_of y ≡ id_of r → ⊥) → f y ≡ y) → map f rs ≡ set rs k (f r)
-one-slot f p k [] r h e g = refl
-one-slot f p zero (y ∷ rs) r h e g =
+one_slot f p k [] r h e g = refl
+one_slot f p zero (y ∷ rs) r h e g =
     let q : y ≡ r = cc in
     let o = ordered p y rs h in
     cc (map_fixed f rs (λ j z t. g z (λ u. omega (arith, above (id_of y) j rs z o.rest t, ap id_of q))))
-one-slot f p (suc k) (y ∷ rs) r h e g =
+one_slot f p (suc k) (y ∷ rs) r h e g =
     let o = ordered p y rs h in
-    cc (g y (λ u. omega (arith, above (id_of y) k rs r o.rest e)), one-slot f (id_of y) k rs r o.rest e g)
+    cc (g y (λ u. omega (arith, above (id_of y) k rs r o.rest e)), one_slot f (id_of y) k rs r o.rest e g)
 
 pub at_slot :
     (c : Card) (i : Item) (k : ℕ) (r : Record) → legal_sets 0 c.sets ≡ true → nth k c.sets ≡ some r → names (id_of r) i ≡ true
@@ -100,4 +100,4 @@ pub at_slot :
 at_slot c i k r h e q =
     let n = length c.sets in
     let own : touched n i r ≡ ruled i r = touched_own n i r (named i (id_of r) n (id_of r) q ∙ eq-eqb (id_of r) (id_of r) refl) in
-    rw (← own) (one-slot (touched n i) 0 k c.sets r h e (λ y o. touched_not n i y (named i (id_of r) n (id_of y) q ∙ ne_eqb (id_of r) (id_of y) (λ z. o (sym z)))))
+    rw (← own) (one_slot (touched n i) 0 k c.sets r h e (λ y o. touched_not n i y (named i (id_of r) n (id_of y) q ∙ ne_eqb (id_of r) (id_of y) (λ z. o (sym z)))))

@@ -116,20 +116,20 @@ pub step_bad : (ws : List ℕ) (i : Item) → legal_table ws ≡ false → step_
 unfolding step_words
 step_bad ws i e = rw e
 
-pub step-legal :
+pub step_legal :
     (ws : List ℕ) (i : Item) → legal_table ws ≡ true
     → step_words ws i ≡ record { table = written ws (after (card_of ws) i); answer = answer (card_of ws) i; notice = (at_desk (card_of ws) i).notice }
 unfolding step_words
-step-legal ws i e = rw e
+step_legal ws i e = rw e
 
 -- a refusal leaves the words as they were
-pub step-refused :
+pub step_refused :
     (ws : List ℕ) (i : Item) (s : ℕ) → legal_table ws ≡ true → refusal_of (card_of ws) i ≡ s → (s ≡ 0 → ⊥)
     → step_words ws i ≡ unchanged ws s
-step-refused ws i s e q n =
+step_refused ws i s e q n =
     let l = legal_known ws e in
     let z : eqb (refusal_of (card_of ws) i) 0 ≡ false = ne_eqb _ _ (λ t. n (sym q ∙ t)) in
-    step-legal ws i e
+    step_legal ws i e
     ∙ rw (refused_sets (card_of ws) i (sets_known ws l) z, at_refused (card_of ws) i z, written_own ws l, refused_answer (card_of ws) i z, q)
 
 -- ---- an item that names a set
@@ -142,7 +142,7 @@ module _ (ws : List ℕ) (i : Item) (id : ℕ) (o : One) (m : meaning i ≡ The 
   -- no set has its identifier
   pub step_unknown : find_in ws id ≡ Nothing → (unknown_at o ≡ 0 → ⊥) → step_words ws i ≡ unchanged ws (unknown_at o)
   unfolding find_in
-  step_unknown f n = step-refused ws i (unknown_at o) e (status_is none (miss id 0 (records_of ws) f)) n
+  step_unknown f n = step_refused ws i (unknown_at o) e (status_is none (miss id 0 (records_of ws) f)) n
 
   module _ (k : ℕ) (f : find_in ws id ≡ At (record { 0 = k })) where
     it : Here ws id k
@@ -154,7 +154,7 @@ module _ (ws : List ℕ) (i : Item) (id : ℕ) (o : One) (m : meaning i ≡ The 
 
     -- refused by what it asks of the set
     pub step_late : (s : ℕ) → refusal_at o (record_of (row ws k)).attributes (record_of (row ws k)).state ≡ s → (s ≡ 0 → ⊥) → step_words ws i ≡ unchanged ws s
-    step_late s q n = step-refused ws i s e (status_is _ it.look ∙ q) n
+    step_late s q n = step_refused ws i s e (status_is _ it.look ∙ q) n
 
     effect_is : refusal_at o (record_of (row ws k)).attributes (record_of (row ws k)).state ≡ 0
         → ruled i (record_of (row ws k)) ≡ settled (record_of (row ws k)) (o.rule (record_of (row ws k)).attributes (record_of (row ws k)).state)
@@ -179,13 +179,13 @@ module _ (ws : List ℕ) (i : Item) (id : ℕ) (o : One) (m : meaning i ≡ The 
         ∙ ap (λ (x : Record). settle (newly_listed (record_of (row ws k)) x) (desk_at ws)) (effect_is z)
 
     -- carried out: its slot holds the record after the rule, the desk what that made of it, and nothing else changes
-    pub step-done :
+    pub step_done :
         refusal_at o (record_of (row ws k)).attributes (record_of (row ws k)).state ≡ 0
         → step_words ws i ≡ record { table = with_desk (put ws k (words_of ruled_to)) told_to.desk; answer = o.done (record_of (row ws k)); notice = told_to.notice }
-    step-done z =
+    step_done z =
         let l = legal_known ws e in
         let r = record_of (row ws k) in
-        step-legal ws i e
+        step_legal ws i e
         ∙ rw (
           written_one ws l (after (card_of ws) i) k (ruled i r) (at_slot (card_of ws) i k r (sets_known ws l) (record_at_lem ws k it.below) names_it) it.below,
           told_is z,

@@ -264,9 +264,9 @@ module _ (i : Item) (id : ℕ) (o : One) (m : meaning i ≡ The id o) (c : Card)
     left_there = first_map (touched (length c.sets) i) (has id) (has_same (length c.sets) id i) c.sets ∙ rw f
 
 -- "data in .. shorter than needed": a Set Features 13h that passes has all its data
-whole-data :
+whole_data :
     (c : Command) (given : List ℕ) (room : ℕ) (a : Attributes) (s : State) → refusal_at (named SetConfig c given room) a s ≡ 0 → feature_size ≤ length given
-whole-data c given room a s h =
+whole_data c given room a s h =
     let p = early_passed c (late_lines SetConfig c (length given) room s) refl h in
     let o = (late_passed SetConfig c (length given) room s p.later).short in
     ltb-false (length given) feature_size (left_false (ltb (length given) feature_size) (ltb room (needs_out SetConfig c)) o)
@@ -290,7 +290,7 @@ config_stored c bytes given room is bytes' given' room' each k a h k' q a' =
     let mode : mode_no l.found.state ≡ bit (enable C)
     = l.kept.mode ∙ ap mode_no s ∙ ap mode_in (leads (rules.cause_of_mode (enable C)) r.attributes r.state) ∙ set_mode (enable C) r.state.window in
     let config : l.found.state.config ≡ config_in given = l.kept.config ∙ ap (λ (y : State). y.config) s in
-    let back : config_page (config_in given) ≡ handed_back given = data_back given each (whole-data C given room r.attributes r.state x.passes) in
+    let back : config_page (config_in given) ≡ handed_back given = data_back given each (whole_data C given room r.attributes r.state x.passes) in
     d ∙ rw (mode, config, back)
 
 -- ---- 14h: the window, as long as nothing moves it
@@ -319,10 +319,10 @@ moved_window false N h = refl
 selected_window : (d : Bool) (a : Attributes) (s : State) → refused_by s.window (cause_by d) ≡ false → window_no (rules.selecting (cause_by d) a s).state.window ≡ if d then 1 else 2
 selected_window d a s h = ap window_no (leads (cause_by d) a s) ∙ moved_window d s.window h
 
-asked-window :
+asked_window :
     (c : Command) (given : List ℕ) (room : ℕ) (a : Attributes) (s : State) → refusal_at (named SetWindow c given room) a s ≡ 0
     → window_no (rules.selecting (window_cause c) a s).state.window ≡ window_value c
-asked-window c given room a s h =
+asked_window c given room a s h =
     let p = early_passed c (late_lines SetWindow c (length given) room s) refl h in
     let o = (late_passed SetWindow c (length given) room s p.later).window in
     selected_window (eqb (window_value c) 1) a s (left_false (is_off SetWindow c s) (no_window SetWindow c) o)
@@ -347,7 +347,7 @@ window_stored c bytes given room is bytes' given' room' k a h k' q a' =
     let y = found_by GetWindow C' given' room' (first (has (feature_set C')) (run c (i ∷ is)).sets) (sym (status_is (command bytes' given' room') (feature_set C') o' m' (run c (i ∷ is))) ∙ z') in
     let d = done_is (command bytes' given' room') (feature_set C') o' m' (run c (i ∷ is)) y.found y.there z' in
     let there : first (has id) (run c (i ∷ is)).sets ≡ some y.found = subst (λ (x : ℕ). first (has x) (run c (i ∷ is)).sets ≡ some y.found) q y.there in
-    let asked : window_no t.state.window ≡ window_value C = ap (λ (v : State). window_no v.window) s ∙ asked-window C given room r.attributes r.state x.passes in
+    let asked : window_no t.state.window ≡ window_value C = ap (λ (v : State). window_no v.window) s ∙ asked_window C given room r.attributes r.state x.passes in
     let window : window_no y.found.state.window ≡ window_value C
     = sym (ap shown_window there) ∙ unmoved is (after c i) id h ∙ ap shown_window (left_there i id o m c r x.there) ∙ asked in
     d ∙ rw window

@@ -38,7 +38,7 @@ use Rattle.steps.proofs.ItemShapes.{bool_cases, touched_own, touched_not}
 use Rattle.steps.proofs.Slots.{ordered}
 use Rattle.steps.proofs.AtDesk.{desk_kept}
 use Rattle.steps.proofs.KeptLegal.{touched_kept}
-use Rattle.steps.proofs.StepOnWords.{step-legal}
+use Rattle.steps.proofs.StepOnWords.{step_legal}
 
 -- ---- the thresholds
 
@@ -119,5 +119,5 @@ words_stay ws i e each g =
     let l = legal_known ws e in
     let many : length (after (card_of ws) i).sets ≡ length (records_of ws) = simp length-map in
     let few : length (after (card_of ws) i).sets < 2 ^ 64 = omega (arith, many, length_records ws, l.few) in
-    rw (step-legal ws i e)
+    rw (step_legal ws i e)
     (written_fit ws (after (card_of ws) i) each few (all_fit i g (length (records_of ws)) 0 (records_of ws) (sets_known ws l) (records_fit ws e each)) (desk_kept (card_of ws) i (desk_legal_lem ws (desk_there ws l))))

@@ -400,11 +400,11 @@ pub record SwappedWords (ws : List ℕ) (before : List Item) (i j : Item) (later
       trace_words ws (before ++ j ∷ i ∷ later)
       ≡ trace_words ws before ++ (step_words (run_words ws before) j).answer ∷ (step_words (run_words ws before) i).answer
       ∷ trace_words (run_words ws (before ++ i ∷ j ∷ [])) later
-  pub told-one-way :
+  pub told_one_way :
       told_words ws (before ++ i ∷ j ∷ later)
       ≡ told_words ws before ++ (step_words (run_words ws before) i).notice ∷ (step_words (step_words (run_words ws before) i).table j).notice
       ∷ told_words (run_words ws (before ++ i ∷ j ∷ [])) later
-  pub told-other-way :
+  pub told_other_way :
       told_words ws (before ++ j ∷ i ∷ later)
       ≡ told_words ws before ++ (step_words (run_words ws before) j).notice ∷ (step_words (step_words (run_words ws before) j).table i).notice
       ∷ told_words (run_words ws (before ++ i ∷ j ∷ [])) later

@@ -328,7 +328,7 @@ pub record Steps (H : Holder) : Type 0 where
   pub after :
       (h : H.Held) (l : H.Lent) (b : H.Back) (g : H.Held) → legal_table (H.words h) ≡ true → H.Call h l b g
       → g ≡ H.with_words h (step_words (H.words h) (H.item l)).table
-  pub words-after :
+  pub words_after :
       (h : H.Held) (l : H.Lent) (b : H.Back) (g : H.Held) → legal_table (H.words h) ≡ true → H.Call h l b g
       → H.words g ≡ (step_words (H.words h) (H.item l)).table
   pub said :

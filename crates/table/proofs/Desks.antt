@@ -14,7 +14,7 @@ use Rattle.desk.specs.Desk.{Desk, Told, queued, turned, lifted, settle, requests
 use Rattle.desk.specs.Words.{desk_size, desk_words, desk_in, desk_legal}
 use Rattle.desk.specs.AtWords.{settled_words, queued_words, turned_words, lifted_words}
 use Rattle.desk.specs.declared.Settled.{Settled}
-use Rattle.desk.proofs.AtDesk.{words_of_told, count_at, settle_at, queue-at, turn_at_lem, lift_at}
+use Rattle.desk.proofs.AtDesk.{words_of_told, count_at, settle_at, queue_at, turn_at_lem, lift_at}
 use Rattle.desk.proofs.Sending.{settle_none}
 use Rattle.record.specs.declared.Record.{Record}
 use Rattle.table.specs.Layout.{row_words, words_of}
@@ -58,12 +58,12 @@ module _ (ws : List ℕ) (t : DeskThere ws) where
     unfolding desk_at
     settled_tells new es = tells ws _ s after (es ∙ ap (settled_words new) ea ∙ settle_at (desk_part ws) (desk_words_lem ws t) new) h
 
-    pub queued-tells :
+    pub queued_tells :
         (id : ℕ) → length (desk_at ws).waiting < requests_maximum → id ≤ identifier_maximum → s ≡ settled_words false (queued_words id a)
         → Tells ws (settle false (queued id (desk_at ws))) after s.notice
     unfolding desk_at
-    queued-tells id l m es =
-        tells ws _ s after (es ∙ ap (λ (x : List ℕ). settled_words false (queued_words id x)) ea ∙ queue-at (desk_part ws) (desk_words_lem ws t) id l m) h
+    queued_tells id l m es =
+        tells ws _ s after (es ∙ ap (λ (x : List ℕ). settled_words false (queued_words id x)) ea ∙ queue_at (desk_part ws) (desk_words_lem ws t) id l m) h
 
     pub turned_tells : (on : Bool) → s ≡ settled_words false (turned_words on a) → Tells ws (settle false (turned on (desk_at ws))) after s.notice
     unfolding desk_at
@@ -77,17 +77,17 @@ module _ (ws : List ℕ) (t : DeskThere ws) where
 -- ---- rows and the desk
 
 -- words stored before some rows
-pub sets-before :
+pub sets_before :
     (ws : List ℕ) (j k : ℕ) (a : List ℕ) (rs : List Record) → j + length a ≤ row_start k
     → sets (written_from ws k rs) j a ≡ written_from (sets ws j a) k rs
-sets-before ws j k a [] h = refl
-sets-before ws j k a (r ∷ rs) h =
-    sets-before (put ws k (words_of r)) j (suc k) a rs (omega arith)
+sets_before ws j k a [] h = refl
+sets_before ws j k a (r ∷ rs) h =
+    sets_before (put ws k (words_of r)) j (suc k) a rs (omega arith)
     ∙ ap (λ (x : List ℕ). written_from x (suc k) rs) (sets_comm a (words_of r) ws (row_start k) j (inl (omega arith)))
 
 pub rows_apart : (ws : List ℕ) (d : Desk) (rs : List Record) → written_rows (with_desk ws d) rs ≡ with_desk (written_rows ws rs) d
 unfolding with_desk written_rows
-rows_apart ws d rs = sym (sets-before ws desk_start 0 (desk_words d) rs (omega arith))
+rows_apart ws d rs = sym (sets_before ws desk_start 0 (desk_words d) rs (omega arith))
 
 pub desk_put : (ws : List ℕ) (k : ℕ) (a : List ℕ) → length a ≡ row_words → desk_part (put ws k a) ≡ desk_part ws
 desk_put ws k a n = part_other a ws (row_start k) desk_start desk_size (inl (omega arith))

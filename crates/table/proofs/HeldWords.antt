@@ -34,7 +34,7 @@ last_first true false true false = refl
 last_first true false false h = refl
 last_first false m l h = refl
 
-changing-words :
+changing_words :
     (w : Window) (b : Bool) (r o t m n reads writes time high low : ℕ) → b ≡ true
     → b && leb (window_no w) 2
     && zero_outside (eqb (window_no w) 1) (leb r reads) r
@@ -46,9 +46,9 @@ changing-words :
     (eqb r 0 && eqb o 0 && eqb t 0 && (eqb m 0 && eqb n 0))
     (leb r reads && leb o writes && ltb t time && (eqb m 0 && eqb n 0))
     (eqb r 0 && eqb o 0 && eqb t 0 && (leb low n && leb n high && leb m n))
-changing-words Off b r o t m n reads writes time high low h = rw h (and_assoc (eqb r 0 && eqb o 0 && eqb t 0) (eqb m 0) (eqb n 0))
-changing-words D b r o t m n reads writes time high low h = rw h (and_assoc (leb r reads && leb o writes && ltb t time) (eqb m 0) (eqb n 0))
-changing-words N b r o t m n reads writes time high low h = rw h (last_first (eqb r 0 && eqb o 0 && eqb t 0) (leb m n) (leb low n) (leb n high))
+changing_words Off b r o t m n reads writes time high low h = rw h (and_assoc (eqb r 0 && eqb o 0 && eqb t 0) (eqb m 0) (eqb n 0))
+changing_words D b r o t m n reads writes time high low h = rw h (and_assoc (leb r reads && leb o writes && ltb t time) (eqb m 0) (eqb n 0))
+changing_words N b r o t m n reads writes time high low h = rw h (last_first (eqb r 0 && eqb o 0 && eqb t 0) (leb m n) (leb low n) (leb n high))
 
 some_of : (i o t x y : Bool) → not (eqb (bits_of (events_of i o t x y)) 0) ≡ some_event (events_of i o t x y)
 some_of true o t x y = rw (ne_eqb (bits_of (events_of true o t x y)) 0 (λ z. omega arith))
@@ -71,7 +71,7 @@ words_of_record r =
     let a = r.attributes in
     let s = r.state in
     rw (
-      changing-words s.window _ s.spent.reads s.spent.writes s.spent.time s.recovery.time s.recovery.need _ _ _ _ _ (bits_within s.config.enabled),
+      changing_words s.window _ s.spent.reads s.spent.writes s.spent.time s.recovery.time s.recovery.need _ _ _ _ _ (bits_within s.config.enabled),
       bits_within r.notes.events,
       some_bits r.notes.events,
       mark_words r.notes.listed (some_event r.notes.events),

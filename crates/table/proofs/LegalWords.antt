@@ -148,13 +148,13 @@ at_most false x most = at_zero x
 
 -- the code's tests of N time and the need, after the others (x): N time against the need in every window, the need against bounds
 -- that are 0 outside N
-pub recovery-tested :
+pub recovery_tested :
     (x here : Bool) (m n low : ℕ) (within : Bool)
     → x && leb m n && (leb (if here then low else 0) n && zero_outside here within n)
     ≡ x && zero_outside here (leb m n) m && zero_outside here (leb low n && within) n
-recovery-tested x true m n low within = refl
-recovery-tested x false m zero low within = rw (at_zero m)
-recovery-tested x false m (suc n) low within =
+recovery_tested x true m n low within = refl
+recovery_tested x false m zero low within = rw (at_zero m)
+recovery_tested x false m (suc n) low within =
     rw (le-leb 0 (suc n) (omega arith), ne_eqb (suc n) 0 (λ z. omega arith), and-false (x && leb m (suc n)), and-false (x && eqb m 0))
 
 pub below : (here : Bool) (x most : ℕ) → ltb x (if here then most else 1) ≡ zero_outside here (ltb x most) x

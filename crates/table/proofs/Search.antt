@@ -39,20 +39,20 @@ rise p (suc j) (suc k) (a ∷ rs) h l m = rise (id_of (record_of a)) j k rs (bot
 
 -- ---- what a search that starts at the first slot finds
 
-find-hit :
+find_hit :
     (id i k : ℕ) (rs : List (List ℕ)) → k < length rs → ((j : ℕ) → j < k → row_id rs j ≡ id → ⊥) → row_id rs k ≡ id
     → find_from id i (map record_of rs) ≡ At (record { 0 = i + k })
-find-hit id i k [] l n e = absurd (not-suc-le-zero l)
-find-hit id i zero (a ∷ rs) l n e = rw (eq-eqb (id_of (record_of a)) id e, add-zero i)
-find-hit id i (suc k) (a ∷ rs) l n e =
+find_hit id i k [] l n e = absurd (not-suc-le-zero l)
+find_hit id i zero (a ∷ rs) l n e = rw (eq-eqb (id_of (record_of a)) id e, add-zero i)
+find_hit id i (suc k) (a ∷ rs) l n e =
     let q : suc i + k ≡ i + suc k = omega arith in
-    rw (ne_eqb (id_of (record_of a)) id (n 0 (omega arith)), ← q) (find-hit id (suc i) k rs (omega arith) (λ j h. n (suc j) (omega arith)) e)
+    rw (ne_eqb (id_of (record_of a)) id (n 0 (omega arith)), ← q) (find_hit id (suc i) k rs (omega arith) (λ j h. n (suc j) (omega arith)) e)
 
-find-miss :
+find_miss :
     (id i : ℕ) (rs : List (List ℕ)) → ((j : ℕ) → j < length rs → row_id rs j ≡ id → ⊥) → find_from id i (map record_of rs) ≡ Nothing
-find-miss id i [] n = refl
-find-miss id i (a ∷ rs) n =
-    rw (ne_eqb (id_of (record_of a)) id (n 0 (omega arith))) (find-miss id (suc i) rs (λ j h. n (suc j) (omega arith)))
+find_miss id i [] n = refl
+find_miss id i (a ∷ rs) n =
+    rw (ne_eqb (id_of (record_of a)) id (n 0 (omega arith))) (find_miss id (suc i) rs (λ j h. n (suc j) (omega arith)))
 
 -- an identifier that is neither the one that is looked for nor below it
 pub not_below : {here id : ℕ} → (here ≡ id → ⊥) → id ≤ here → id < here
@@ -128,7 +128,7 @@ module _ (ws : List ℕ) (l : Legal ws) where
   pub search_here : (id slot : ℕ) → slot < count ws → id_at ws slot ≡ id → At (record { 0 = slot }) ≡ find_in ws id
   unfolding find_in records_of
   search_here id slot h e =
-      sym (find-hit id 0 slot (rows ws) (omega (arith, length_rows ws 0 (count ws), h)) others (row_id_lem slot h ∙ e) ∙ ap (λ (k : ℕ). At (record { 0 = k })) (zero-add slot))
+      sym (find_hit id 0 slot (rows ws) (omega (arith, length_rows ws 0 (count ws), h)) others (row_id_lem slot h ∙ e) ∙ ap (λ (k : ℕ). At (record { 0 = k })) (zero-add slot))
     where
       others : (j : ℕ) → j < slot → row_id (rows ws) j ≡ id → ⊥
       others j b q = omega (arith, ids_rise j slot b h, row_id_lem j (omega (arith, b, h)), q, e)
@@ -142,9 +142,9 @@ module _ (ws : List ℕ) (l : Legal ws) where
       middle_inside = omega (arith, t, s.inside)
 
       -- its identifier is below the one that is looked for: so are those of the slots before it
-      pub search-up :
+      pub search_up :
           id_at ws (from + left / 2) < id → Searching ws id (from + left / 2 + 1) (left - left / 2 - 1) (looks - 1)
-      search-up h =
+      search_up h =
           record {
             inside = omega (arith, t, s.inside);
             below = λ k b.
@@ -168,7 +168,7 @@ module _ (ws : List ℕ) (l : Legal ws) where
 
     pub search_nowhere : left ≤ 0 → Nothing ≡ find_in ws id
     unfolding find_in records_of
-    search_nowhere t = sym (find-miss id 0 (rows ws) (λ j h q. none j (omega (arith, length_rows ws 0 (count ws))) q))
+    search_nowhere t = sym (find_miss id 0 (rows ws) (λ j h q. none j (omega (arith, length_rows ws 0 (count ws))) q))
       where
         none : (j : ℕ) → j < count ws → row_id (rows ws) j ≡ id → ⊥
         none j h q =
@@ -181,4 +181,4 @@ module _ (ws : List ℕ) (l : Legal ws) where
   -- no set has identifier 0
   pub search_zero : Nothing ≡ find_in ws 0
   unfolding find_in records_of
-  search_zero = sym (find-miss 0 0 (rows ws) (λ j h q. omega (arith, climbs 0 j (rows ws) (rows_known ws l) h, q)))
+  search_zero = sym (find_miss 0 0 (rows ws) (λ j h q. omega (arith, climbs 0 j (rows ws) (rows_known ws l) h, q)))

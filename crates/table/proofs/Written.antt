@@ -114,10 +114,10 @@ all_turn f ws n i h =
     rw (later_more ws n i h, add-one, rows_other ws i (words_of r) (length_words r) (suc i) (n - suc i) (omega arith))
 
 -- the record that was loaded, the record that the rule made of it, and the table that has it
-pub all-again :
+pub all_again :
     (f : Record → Record) (ws : List ℕ) (n i : ℕ) (goal : List ℕ) → left_to_do f ws n i ≡ goal → i < n → (r x : Record) (vs : List ℕ)
     → r ≡ record_of (row ws i) → x ≡ f r → vs ≡ put ws i (words_of x) → left_to_do f vs n (i + 1) ≡ goal
-all-again f ws n i goal inv h r x vs er ex ev = rw (ev, ex, er) (all_turn f ws n i h ∙ inv)
+all_again f ws n i goal inv h r x vs er ex ev = rw (ev, ex, er) (all_turn f ws n i h ∙ inv)
 
 -- ---- what is read back
 

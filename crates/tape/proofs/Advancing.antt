@@ -47,11 +47,11 @@ turn_used Ended n words bodies left last = omega arith
 -- ---- one turn
 
 module _ (p : Progress) (words bodies out piece : List ℕ) (last : Bool) where
-  pub advanced-stopped :
+  pub advanced_stopped :
       (r : Progress) → p.used ≤ length piece → p.len ≤ length out → length out - p.len < line_room → r ≡ progress p.stage p.count p.used p.len false
       → Advanced (player p words bodies out) piece last (player r words bodies out)
   unfolding advanced
-  advanced-stopped r u l h e =
+  advanced_stopped r u l h e =
       record {
         is = rw (lt-ltb (length out - p.len) line_room h) (ap (λ (x : Progress). player x words bodies out) e);
         used_within = rw e u;
@@ -79,12 +79,12 @@ module _ (p : Progress) (words bodies out piece : List ℕ) (last : Bool) where
         let n : t.used ≡ (turn_at p.stage p.count words bodies (drop p.used piece) last).used = ap (λ (x : Progress). x.used) q.progress_is in
         omega (arith, turn_used p.stage p.count words bodies (drop p.used piece) last, length-drop p.used piece)
 
-    pub advanced-moved :
+    pub advanced_moved :
         (out' : List ℕ) (end : ℕ) (r : Progress) → Put out p.len (take t.len line) out' end
         → r ≡ progress t.stage t.count (p.used + t.used) end t.going
         → Advanced (player p words bodies out) piece last (player r words' bodies' out')
     unfolding advanced
-    advanced-moved out' end r put e =
+    advanced_moved out' end r put e =
         let T = turn_at p.stage p.count words bodies (drop p.used piece) last in
         let q = rest_turned in
         let n : t.len ≡ length T.text = ap (λ (x : Progress). x.len) q.progress_is in
@@ -101,31 +101,31 @@ module _ (p : Progress) (words bodies out piece : List ℕ) (last : Bool) where
 
 -- ---- turns one after another: what is left to do
 
-pub turns-again :
+pub turns_again :
     (k : ℕ) (piece : List ℕ) (last : Bool) (g h all : Player) → 0 < k → Advanced g piece last h → h.at.going ≡ true → turns k piece last g ≡ all
     → turns (k - 1) piece last h ≡ all
 unfolding turns advanced
-turns-again zero piece last g h all some a on e = absurd (omega arith)
-turns-again (suc k) piece last g h all some a on e =
+turns_again zero piece last g h all some a on e = absurd (omega arith)
+turns_again (suc k) piece last g h all some a on e =
     let less : suc k - 1 ≡ k = omega arith in
     let goes : (advanced piece last g).at.going ≡ true = rw (← a.is) on in
     rw (less, a.is) (rw goes at e)
 
-pub turns-stop :
+pub turns_stop :
     (k : ℕ) (piece : List ℕ) (last : Bool) (g h all : Player) → 0 < k → Advanced g piece last h → h.at.going ≡ false → turns k piece last g ≡ all
     → turns 0 piece last h ≡ all
 unfolding turns advanced
-turns-stop zero piece last g h all some a off e = absurd (omega arith)
-turns-stop (suc k) piece last g h all some a off e =
+turns_stop zero piece last g h all some a off e = absurd (omega arith)
+turns_stop (suc k) piece last g h all some a off e =
     let stops : (advanced piece last g).at.going ≡ false = rw (← a.is) off in
     a.is ∙ (rw stops at e)
 
-pub played-on :
+pub played_on :
     (k : ℕ) (p : Progress) (words₀ bodies₀ out₀ piece : List ℕ) (last : Bool) (r : Progress) (words bodies out : List ℕ) → k ≤ 0
     → r.used ≤ length piece → r.len ≤ length out
     → turns k piece last (player r words bodies out) ≡ turns most_turns piece last (player (anew p) words₀ bodies₀ out₀)
     → PlayedOn p words₀ bodies₀ out₀ piece last r words bodies out
 unfolding turns
-played-on k p words₀ bodies₀ out₀ piece last r words bodies out done u l e =
+played_on k p words₀ bodies₀ out₀ piece last r words bodies out done u l e =
     let z : k ≡ 0 = omega arith in
     record { played = rw z at e; used_within = u; text_within = l }

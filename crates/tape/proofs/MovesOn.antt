@@ -151,18 +151,18 @@ grown_first (suc k) piece last g h =
 
 -- ---- a call
 
-first-moves :
+first_moves :
     (p : Progress) (words bodies out piece : List ℕ) (last : Bool) → (p.stage ≡ Ended → ⊥) → line_room ≤ length out → (last ≡ false → longest_item ≤ length piece)
     → let g = advanced piece last (player (anew p) words bodies out) in stages_left g.at.stage < stages_left p.stage + g.at.used
 unfolding advanced
-first-moves p words bodies out piece last s room h =
+first_moves p words bodies out piece last s room h =
     let m = turn_moves p.count words bodies piece p.stage last s h in
     rw (le-ltb (length out - 0) line_room (omega arith)) (omega (arith, m))
 
 pub moves_on : MovesOn
 moves_on p words₀ bodies₀ out₀ piece last r words bodies out c s room h =
     let g = player (anew p) words₀ bodies₀ out₀ in
-    let f = first-moves p words₀ bodies₀ out₀ piece last s room h in
+    let f = first_moves p words₀ bodies₀ out₀ piece last s room h in
     let t = grown_first most_turns piece last g (lit≤ tt) in
     let u : r.used ≡ (turns most_turns piece last g).at.used = ap (λ (x : Player). x.at.used) c.played in
     let l : stages_left r.stage ≡ stages_left (turns most_turns piece last g).at.stage = ap (λ (x : Player). stages_left x.at.stage) c.played in

@@ -75,12 +75,12 @@ none_taken (suc n) = refl
 none_cut : (n : ℕ) → cut [] 0 n ≡ []
 none_cut n = none_taken (n - 0)
 
-pub played-bare :
+pub played_bare :
     (ws : List ℕ) (i : Item) (r : Reply) (line₀ words mid line : List ℕ) (m n : ℕ)
     → Answered ws i [] r words []
     → Put line₀ 0 (item_line (record { status = r.status; dword = r.dword; bytes = [] })) mid m → Put mid m (notice_line r.notice) line n
     → Played ws (some i) line₀ n words line
-played-bare ws i r line₀ words mid line m n a p e =
+played_bare ws i r line₀ words mid line m n a p e =
     let q = a.reply in
     played ws i line₀ words mid line m n r.status r.dword [] r.notice a.table q.status q.dword (sym (none_cut r.len) ∙ q.part) a.notice p e
 
@@ -89,27 +89,27 @@ notice_back : (x : Notice) → notice_of (told_no x) (to_no x) ≡ x
 notice_back Unsent = refl
 notice_back (To id) = refl
 
-pub played-handed :
+pub played_handed :
     (ws : List ℕ) (i : Item) (room : ℕ) (line₀ words mid line : List ℕ) (m n status dword told to : ℕ) (part : List ℕ) (notice : Notice)
     → Handed ws i room words status dword told to part → notice ≡ notice_of told to
     → Put line₀ 0 (item_line (record { status = status; dword = dword; bytes = part })) mid m → Put mid m (notice_line notice) line n
     → Played ws (some i) line₀ n words line
-played-handed ws i room line₀ words mid line m n status dword told to part notice h en p e =
+played_handed ws i room line₀ words mid line m n status dword told to part notice h en p e =
     played ws i line₀ words mid line m n status dword part notice h.table h.status_is h.dword_is h.part_is
     (en ∙ rw (h.told_is, h.to_is) (notice_back (step_words ws i).notice)) p e
 
-pub played-answer :
+pub played_answer :
     (ws : List ℕ) (i : Item) (buffer handed : List ℕ) (r : Reply) (line₀ words mid line : List ℕ) (m n : ℕ)
     → Answered ws i buffer r words handed
     → Put line₀ 0 (item_line (record { status = r.status; dword = r.dword; bytes = cut handed 0 r.len })) mid m
     → Put mid m (notice_line r.notice) line n → Played ws (some i) line₀ n words line
-played-answer ws i buffer handed r line₀ words mid line m n a p e =
+played_answer ws i buffer handed r line₀ words mid line m n a p e =
     let q = a.reply in
     played ws i line₀ words mid line m n r.status r.dword (cut handed 0 r.len) r.notice a.table q.status q.dword q.part a.notice p e
 
-pub played-as :
+pub played_as :
     (ws : List ℕ) (i j : Item) (line₀ : List ℕ) (n : ℕ) (words line : List ℕ) → i ≡ j → Played ws (some i) line₀ n words line → Played ws (some j) line₀ n words line
-played-as ws i j line₀ n words line e p = subst (λ (x : Item). Played ws (some x) line₀ n words line) e p
+played_as ws i j line₀ n words line e p = subst (λ (x : Item). Played ws (some x) line₀ n words line) e p
 
 pub as_reads : (kind set count a b : ℕ) → kind ≡ 3 → a ≡ set → b ≡ count → reads a b ≡ media_item kind set count
 as_reads kind set count a b e p q = rw (e, p, q)
@@ -120,9 +120,9 @@ as_writes kind set count a b e p q = rw (e, p, q)
 pub as_excursion : (kind set count a : ℕ) → (kind ≡ 3 → ⊥) → (kind ≡ 4 → ⊥) → a ≡ set → excursion a ≡ media_item kind set count
 as_excursion kind set count a n m p = rw (ne_eqb kind 3 n, ne_eqb kind 4 m, p)
 
-pub as-command :
+pub as_command :
     (kind : ℕ) (body bytes given : List ℕ) → kind < 3 → bytes ≡ take command_size body → given ≡ drop command_size body → command bytes given answer_size ≡ item_by kind body
-as-command kind body bytes given h p q = rw (lt-ltb kind 3 h, p, q)
+as_command kind body bytes given h p q = rw (lt-ltb kind 3 h, p, q)
 
 -- the part from a place to the end
 pub rest_all : (body : List ℕ) (n : ℕ) → take (length body - n) (drop n body) ≡ drop n body
@@ -134,10 +134,10 @@ as_tick kind body t e p = rw (e, p)
 pub as_media : (kind : ℕ) (body : List ℕ) → 3 ≤ kind → (kind ≡ 6 → ⊥) → media_item kind (number_at body 0 2) (number_at body 2 2) ≡ item_by kind body
 as_media kind body h n = rw (le-ltb kind 3 h, ne_eqb kind 6 n)
 
-pub played-item :
+pub played_item :
     (ws : List ℕ) (kind : ℕ) (body line₀ : List ℕ) (n : ℕ) (words line : List ℕ) → is_item kind body ≡ true
     → Played ws (some (item_by kind body)) line₀ n words line → Played ws (item_in kind body) line₀ n words line
-played-item ws kind body line₀ n words line e p = rw e p
+played_item ws kind body line₀ n words line e p = rw e p
 
 pub played_none : (ws : List ℕ) (kind : ℕ) (body line : List ℕ) → is_item kind body ≡ false → Played ws (item_in kind body) line 0 ws line
 played_none ws kind body line e = rw e (record { table = refl; text = refl; count = refl; within = omega arith })

@@ -41,29 +41,29 @@ body_ahead : (size have more : ℕ) → (next_body size have false ≡ Short →
 body_ahead size have more n =
     whole_still (leb size have) (leb size (have + more)) (λ e. le-leb size (have + more) (omega (arith, leb-true size have e))) n
 
-set-ahead-by :
+set_ahead_by :
     (is_set : Bool) (size have more : ℕ) → ((if is_set then next_body size have false else Over) ≡ Short → ⊥)
     → (if is_set then next_body size (have + more) true else Over) ≡ (if is_set then next_body size have false else Over)
-set-ahead-by true size have more n = body_ahead size have more n
-set-ahead-by false size have more n = refl
+set_ahead_by true size have more n = body_ahead size have more n
+set_ahead_by false size have more n = refl
 
-item-ahead-by :
+item_ahead_by :
     (is_item : Bool) (size have more : ℕ) → ((if is_item then next_body size have false else Bad) ≡ Short → ⊥)
     → (if is_item then next_body size (have + more) true else Bad) ≡ (if is_item then next_body size have false else Bad)
-item-ahead-by true size have more n = body_ahead size have more n
-item-ahead-by false size have more n = refl
+item_ahead_by true size have more n = body_ahead size have more n
+item_ahead_by false size have more n = refl
 
 -- the bytes of the file after those that are there
 module _ (later : List ℕ) where
   pub set_ahead : (left : List ℕ) (last : Bool) → (last ≡ true → later ≡ []) → (next_set left last ≡ Short → ⊥) → next_set (left ++ later) true ≡ next_set left last
   set_ahead left true l n = rw (l refl, append-nil)
   set_ahead [] false l n = absurd (n refl)
-  set_ahead (k ∷ ks) false l n = rw (length-append ks later) (set-ahead-by (eqb k attributes_kind) attributes_size (length ks) (length later) n)
+  set_ahead (k ∷ ks) false l n = rw (length-append ks later) (set_ahead_by (eqb k attributes_kind) attributes_size (length ks) (length later) n)
 
   pub item_ahead : (left : List ℕ) (last : Bool) → (last ≡ true → later ≡ []) → (next_item left last ≡ Short → ⊥) → next_item (left ++ later) true ≡ next_item left last
   item_ahead left true l n = rw (l refl, append-nil)
   item_ahead [] false l n = absurd (n refl)
-  item_ahead (k ∷ ks) false l n = rw (length-append ks later) (item-ahead-by (ltb 0 (item_size k)) (item_size k) (length ks) (length later) n)
+  item_ahead (k ∷ ks) false l n = rw (length-append ks later) (item_ahead_by (ltb 0 (item_size k)) (item_size k) (length ks) (length later) n)
 
 -- ---- one turn more than there are bytes is enough
 
@@ -73,63 +73,63 @@ next_whole Short a b short bad over h = refl
 next_whole Bad a b short bad over h = refl
 next_whole Over a b short bad over h = refl
 
-items-enough :
+items_enough :
     (k j : ℕ) (words : List ℕ) (n : ℕ) (bytes : List ℕ) → length bytes < k → length bytes < j → items_text k words n bytes ≡ items_text j words n bytes
-items-enough zero j words n bytes h f = absurd (omega arith)
-items-enough (suc k) zero words n bytes h f = absurd (omega arith)
-items-enough (suc k) (suc j) words n bytes h f =
+items_enough zero j words n bytes h f = absurd (omega arith)
+items_enough (suc k) zero words n bytes h f = absurd (omega arith)
+items_enough (suc k) (suc j) words n bytes h f =
     next_whole (next_item bytes true) _ _ [] (bad_line n) (end_line n) (λ e.
     let there = whole_item_there bytes true e in
     let less : length (drop (item_length bytes) bytes) < length bytes = omega (arith, length-drop (item_length bytes) bytes) in
     ap (λ (l : List ℕ). line_for words (first_item bytes) ++ l)
-    (items-enough k j (words_after words (first_item bytes)) (n + 1) (drop (item_length bytes) bytes) (omega arith) (omega arith)))
+    (items_enough k j (words_after words (first_item bytes)) (n + 1) (drop (item_length bytes) bytes) (omega arith) (omega arith)))
 
-sets-enough :
+sets_enough :
     (k j : ℕ) (words : List ℕ) (n : ℕ) (kept bytes : List ℕ) → length bytes < k → length bytes < j
     → sets_text k words n kept bytes ≡ sets_text j words n kept bytes
-sets-enough zero j words n kept bytes h f = absurd (omega arith)
-sets-enough (suc k) zero words n kept bytes h f = absurd (omega arith)
-sets-enough (suc k) (suc j) words n kept bytes h f =
+sets_enough zero j words n kept bytes h f = absurd (omega arith)
+sets_enough (suc k) zero words n kept bytes h f = absurd (omega arith)
+sets_enough (suc k) (suc j) words n kept bytes h f =
     next_whole (next_set bytes true) _ _ [] (bad_line 0) (set_up_text n (set_up kept words) bytes) (λ e.
     let there = whole_set_there bytes true e in
     let less : length (drop set_length bytes) < length bytes = omega (arith, length-drop set_length bytes) in
-    sets-enough k j words (n + 1) (kept ++ part bytes 1 attributes_size) (drop set_length bytes) (omega arith) (omega arith))
+    sets_enough k j words (n + 1) (kept ++ part bytes 1 attributes_size) (drop set_length bytes) (omega arith) (omega arith))
 
 -- ---- bodies past those that are kept make no difference
 
 many_bodies : (kept : List ℕ) → bodies_room ≤ length kept → max_sets < bodies kept
 many_bodies kept h = omega arith
 
-many-alike :
+many_alike :
     (k : ℕ) (words : List ℕ) (n : ℕ) (xs ys bytes : List ℕ) → bodies_room ≤ length xs → bodies_room ≤ length ys
     → sets_text k words n xs bytes ≡ sets_text k words n ys bytes
-many-alike zero words n xs ys bytes h f = refl
-many-alike (suc k) words n xs ys bytes h f =
+many_alike zero words n xs ys bytes h f = refl
+many_alike (suc k) words n xs ys bytes h f =
     let body = part bytes 1 attributes_size in
-    let more = many-alike k words (n + 1) (xs ++ body) (ys ++ body) (drop set_length bytes) (omega (arith, length-append xs body)) (omega (arith, length-append ys body)) in
+    let more = many_alike k words (n + 1) (xs ++ body) (ys ++ body) (drop set_length bytes) (omega (arith, length-append xs body)) (omega (arith, length-append ys body)) in
     let alike : set_up xs words ≡ set_up ys words = refused_many xs words (many_bodies xs h) ∙ sym (refused_many ys words (many_bodies ys f)) in
     rw (more, alike)
 
 module _ (kept body : List ℕ) (n : ℕ) (room : length kept ≡ bodies_room) (size : length body ≡ body_size) where
   -- whether the body is kept or not, set-up says the same
-  kept-alike-by :
+  kept_alike_by :
       (k : ℕ) (words bytes : List ℕ) (b : Bool) → ltb n (bodies kept) ≡ b
       → sets_text k words (n + 1) (first_bodies kept n ++ body) bytes ≡ sets_text k words (n + 1) (first_bodies (if b then sets kept (n * body_size) body else kept) (n + 1)) bytes
-  kept-alike-by k words bytes true e =
+  kept_alike_by k words bytes true e =
       let more : first_bodies (sets kept (n * body_size) body) (n + 1) ≡ first_bodies kept n ++ body = rw add-one (first_more kept body n size (ltb-true n (bodies kept) e)) in
       ap (λ (l : List ℕ). sets_text k words (n + 1) l bytes) (sym more)
-  kept-alike-by k words bytes false e =
+  kept_alike_by k words bytes false e =
       let over : most_bodies ≤ n = omega (arith, ltb-false n (bodies kept) e) in
       let all : min n (bodies kept) * body_size ≡ bodies_room = omega arith in
       let all' : min (n + 1) (bodies kept) * body_size ≡ bodies_room = omega arith in
       let long : length (take bodies_room kept) ≡ bodies_room = length-take-le bodies_room kept (omega arith) in
       rw (all, all')
-      (many-alike k words (n + 1) (take bodies_room kept ++ body) (take bodies_room kept) bytes (omega (arith, length-append (take bodies_room kept) body)) (omega arith))
+      (many_alike k words (n + 1) (take bodies_room kept ++ body) (take bodies_room kept) bytes (omega (arith, length-append (take bodies_room kept) body)) (omega arith))
 
-  kept-alike :
+  kept_alike :
       (k : ℕ) (words bytes : List ℕ)
       → sets_text k words (n + 1) (first_bodies kept n ++ body) bytes ≡ sets_text k words (n + 1) (first_bodies (with_body kept n body) (n + 1)) bytes
-  kept-alike k words bytes = kept-alike-by k words bytes (ltb n (bodies kept)) refl
+  kept_alike k words bytes = kept_alike_by k words bytes (ltb n (bodies kept)) refl
 
   kept_room_by : (b : Bool) → length (if b then sets kept (n * body_size) body else kept) ≡ bodies_room
   kept_room_by true = length-sets kept (n * body_size) body ∙ room
@@ -184,7 +184,7 @@ module _ (words kept left later : List ℕ) (last : Bool) (n : ℕ) (room : leng
         same =
             rw (e, first, rest, ← one)
             (ap (λ (l : List ℕ). line_for words (first_item left) ++ l)
-            (items-enough (length (left ++ later)) (suc (length (drop (item_length left) left ++ later))) ws (n + 1) (drop (item_length left) left ++ later) (omega arith) (omega arith)));
+            (items_enough (length (left ++ later)) (suc (length (drop (item_length left) left ++ later))) ws (n + 1) (drop (item_length left) left ++ later) (omega arith) (omega arith)));
         room = room;
         few = rw (← one) (omega arith);
       }
@@ -219,8 +219,8 @@ module _ (words kept left later : List ℕ) (last : Bool) (n : ℕ) (room : leng
       record {
         same =
             rw (e, part_append left later 1 attributes_size there, drop-append-le set_length left later there, ← one)
-            (sets-enough (length (left ++ later)) (suc (length rest)) words (n + 1) (first_bodies kept n ++ body) rest (omega arith) (omega arith)
-            ∙ kept-alike kept body n room size (suc (length rest)) words rest);
+            (sets_enough (length (left ++ later)) (suc (length rest)) words (n + 1) (first_bodies kept n ++ body) rest (omega arith) (omega arith)
+            ∙ kept_alike kept body n room size (suc (length rest)) words rest);
         room = kept_room kept body n room size;
         few = rw (← one) (omega arith);
       }
@@ -260,11 +260,11 @@ module _ (text out₀ piece later : List ℕ) (last : Bool) (l : last ≡ true �
   going_stopped : (g : Player) → Going text out₀ piece later g → Going text out₀ piece later (stopped g)
   going_stopped g i = record { written = i.written; out = i.out; len = i.len; same = i.same; room = i.room; few = i.few }
 
-  going-moved :
+  going_moved :
       (g : Player) (t : Turn) → Going text out₀ piece later g
       → Told (text_from g.at.stage g.at.count g.words g.bodies (drop g.at.used piece ++ later)) t (drop g.at.used piece) later
       → Going text out₀ piece later (moved g t)
-  going-moved g t i told =
+  going_moved g t i told =
       let dropped : drop (g.at.used + t.used) piece ≡ drop t.used (drop g.at.used piece) = sym (drop-drop t.used g.at.used piece) in
       record {
         written = i.written ++ t.text;
@@ -286,7 +286,7 @@ module _ (text out₀ piece later : List ℕ) (last : Bool) (l : last ≡ true �
       let left = drop g.at.used piece in
       let t = turn_at g.at.stage g.at.count g.words g.bodies left last in
       going_by (ltb (length g.out - g.at.len) line_room) g t i
-      (going-moved g t i (told_turn g.words g.bodies left later last g.at.count i.room i.few g.at.stage l))
+      (going_moved g t i (told_turn g.words g.bodies left later last g.at.count i.room i.few g.at.stage l))
 
   turned_by : (b : Bool) (g h : Player) → Going text out₀ piece later g → Going text out₀ piece later h → Going text out₀ piece later (if b then g else h)
   turned_by true g h i j = i
@@ -307,42 +307,42 @@ pub record Written (text : List ℕ) (r : Progress) (words kept out piece later 
   pub room : length kept ≡ bodies_room
   pub few : r.count + length (drop r.used piece ++ later) < 2 ^ 64
 
-written-call :
+written_call :
     (text out₀ piece later : List ℕ) (r : Progress) (words kept out : List ℕ) → r.len ≤ length out
     → Going text out₀ piece later (player r words kept out) → Written text r words kept out piece later
-written-call text out₀ piece later r words kept out h i =
+written_call text out₀ piece later r words kept out h i =
     let long : length out ≡ length out₀ = ap length i.out ∙ length-sets out₀ 0 i.written in
     let taken : take r.len out ≡ i.written = rw i.out (part_same i.written out₀ 0 r.len (sym i.len) (omega arith)) in
     record { same = rw taken i.same; room = i.room; few = i.few }
 
-pub told-call :
+pub told_call :
     (p : Progress) (words₀ kept₀ out₀ piece later : List ℕ) (last : Bool) (r : Progress) (words kept out : List ℕ)
     → PlayedOn p words₀ kept₀ out₀ piece last r words kept out → (last ≡ true → later ≡ []) → length kept₀ ≡ bodies_room
     → p.count + length (piece ++ later) < 2 ^ 64
     → Written (text_from p.stage p.count words₀ kept₀ (piece ++ later)) r words kept out piece later
-told-call p words₀ kept₀ out₀ piece later last r words kept out c l room few =
+told_call p words₀ kept₀ out₀ piece later last r words kept out c l room few =
     let text = text_from p.stage p.count words₀ kept₀ (piece ++ later) in
     let start : Going text out₀ piece later (player (anew p) words₀ kept₀ out₀)
     = record { written = []; out = refl; len = refl; same = refl; room = room; few = few } in
-    written-call text out₀ piece later r words kept out c.text_within
+    written_call text out₀ piece later r words kept out c.text_within
     (rw c.played (going_turns text out₀ piece later last l most_turns (player (anew p) words₀ kept₀ out₀) start))
 
 ended : (stage : Stage) (n : ℕ) (words kept bytes : List ℕ) → stage ≡ Ended → text_from stage n words kept bytes ≡ []
 ended stage n words kept bytes e = rw e
 
-told-pieces :
+told_pieces :
     (cs : List Call) (p : Progress) (words kept left coming : List ℕ) → length kept ≡ bodies_room → p.count + length (left ++ coming) < 2 ^ 64
     → Calls p words kept left coming cs → (at_end p cs).stage ≡ Ended → text_from p.stage p.count words kept (left ++ coming) ≡ join (map text_of cs)
-told-pieces [] p words kept left coming room few h e = ended p.stage p.count words kept (left ++ coming) e
-told-pieces (c ∷ cs) p words kept left coming room few h e =
+told_pieces [] p words kept left coming room few h e = ended p.stage p.count words kept (left ++ coming) e
+told_pieces (c ∷ cs) p words kept left coming room few h e =
     let piece = left ++ c.new in
     let whole : left ++ coming ≡ piece ++ c.later = rw h.0 (sym (append_assoc left c.new c.later)) in
     let few' : p.count + length (piece ++ c.later) < 2 ^ 64 = rw (← whole) few in
-    let w = told-call p words kept c.before piece c.later c.last c.at c.words c.bodies c.out h.2 h.1 room few' in
+    let w = told_call p words kept c.before piece c.later c.last c.at c.words c.bodies c.out h.2 h.1 room few' in
     rw whole
-    (w.same ∙ ap (λ (l : List ℕ). text_of c ++ l) (told-pieces cs c.at c.words c.bodies (drop c.at.used piece) c.later w.room w.few h.3 e))
+    (w.same ∙ ap (λ (l : List ℕ). text_of c ++ l) (told_pieces cs c.at c.words c.bodies (drop c.at.used piece) c.later w.room w.few h.3 e))
 
 pub printed : Printed
 printed words kept file cs room few h e =
     let none : min 0 (bodies kept) * body_size ≡ 0 = omega arith in
-    sym (rw none at (told-pieces cs at_start words kept [] file room (omega arith) h e))
+    sym (rw none at (told_pieces cs at_start words kept [] file room (omega arith) h e))

@@ -36,9 +36,9 @@ counted_full n h = rw (le-ltb n most_counted h)
 pub room_for_all : (kept : List ℕ) → length kept ≡ bodies_room → bodies kept ≡ most_bodies
 room_for_all kept r = omega arith
 
-pub kept-first :
+pub kept_first :
     (kept body after : List ℕ) (n : ℕ) → length kept ≡ bodies_room → n < most_bodies → after ≡ sets kept (n * body_size) body → after ≡ with_body kept n body
-kept-first kept body after n r h e = rw (lt-ltb n (bodies kept) (omega arith)) e
+kept_first kept body after n r h e = rw (lt-ltb n (bodies kept) (omega arith)) e
 
 pub kept_no_more : (kept body : List ℕ) (n : ℕ) → length kept ≡ bodies_room → most_bodies ≤ n → kept ≡ with_body kept n body
 kept_no_more kept body n r h = rw (le-ltb n (bodies kept) (omega arith))
@@ -93,49 +93,49 @@ whole_item_there (k ∷ ks) last e = omega (arith, whole_item_if (ltb 0 (item_si
 -- ---- each turn's function
 
 -- a turn that gives no text
-pub turned-quiet :
+pub turned_quiet :
     (t : Turn) (line : List ℕ) (r : Progress) (words bodies : List ℕ)
     → r ≡ progress t.stage t.count t.used 0 t.going → words ≡ t.words → bodies ≡ t.bodies → t.text ≡ [] → Turned t line r words bodies line
-turned-quiet t line r words bodies e w b q =
+turned_quiet t line r words bodies e w b q =
     record { progress_is = rw q e; table = w; kept = b; text = rw q; within = rw q (omega arith) }
 
 -- one that gives a line
-pub turned-line :
+pub turned_line :
     (t : Turn) (line₀ : List ℕ) (r : Progress) (words bodies line : List ℕ) (len : ℕ) → Put line₀ 0 t.text line len
     → r ≡ progress t.stage t.count t.used len t.going → words ≡ t.words → bodies ≡ t.bodies → Turned t line₀ r words bodies line
-turned-line t line₀ r words bodies line len p e w b =
+turned_line t line₀ r words bodies line len p e w b =
     let long : len ≡ length t.text = omega (arith, p.place) in
     record { progress_is = rw long at e; table = w; kept = b; text = p.bytes; within = rw (← long) p.within }
 
-pub turned-set-up :
+pub turned_set_up :
     (n size status : ℕ) (kept words₀ words line₀ line : List ℕ) (len : ℕ) (r : Progress) → length kept ≡ bodies_room → size ≡ min n most_bodies * body_size
     → SetUp (cut kept 0 size) words₀ words status → Put line₀ 0 (sets_line n status) line len → status ≡ 0 → r ≡ progress Items 0 0 len true
     → Turned (set_up_turn n (set_up (first_bodies kept n) words₀) kept) line₀ r words kept line
-turned-set-up n size status kept words₀ words line₀ line len r room es s p z e =
+turned_set_up n size status kept words₀ words line₀ line len r room es s p z e =
     let result = set_up (first_bodies kept n) words₀ in
     let all : size ≡ min n (bodies kept) * body_size = rw (room_for_all kept room) es in
     let u : SetUp (first_bodies kept n) words₀ words status = rw (cut_front kept size, all) at s in
     let ok : eqb result.answer.status 0 ≡ true = eq-eqb result.answer.status 0 (sym u.status ∙ z) in
     let q : Put line₀ 0 (sets_line n result.answer.status) line len = rw u.status at p in
-    rw ok (turned-line _ line₀ r words kept line len q e u.table refl)
+    rw ok (turned_line _ line₀ r words kept line len q e u.table refl)
 
-pub turned-set-up-refused :
+pub turned_set_up_refused :
     (n size status : ℕ) (kept words₀ words line₀ line : List ℕ) (len : ℕ) (r : Progress) → length kept ≡ bodies_room → size ≡ min n most_bodies * body_size
     → SetUp (cut kept 0 size) words₀ words status → Put line₀ 0 (sets_line n status) line len → (status ≡ 0 → ⊥) → r ≡ progress Ended 0 0 len false
     → Turned (set_up_turn n (set_up (first_bodies kept n) words₀) kept) line₀ r words kept line
-turned-set-up-refused n size status kept words₀ words line₀ line len r room es s p z e =
+turned_set_up_refused n size status kept words₀ words line₀ line len r room es s p z e =
     let result = set_up (first_bodies kept n) words₀ in
     let all : size ≡ min n (bodies kept) * body_size = rw (room_for_all kept room) es in
     let u : SetUp (first_bodies kept n) words₀ words status = rw (cut_front kept size, all) at s in
     let bad : eqb result.answer.status 0 ≡ false = ne_eqb result.answer.status 0 (λ y. z (u.status ∙ y)) in
     let q : Put line₀ 0 (sets_line n result.answer.status) line len = rw u.status at p in
-    rw bad (turned-line _ line₀ r words kept line len q e u.table refl)
+    rw bad (turned_line _ line₀ r words kept line len q e u.table refl)
 
-pub turned-item :
+pub turned_item :
     (left words₀ words line₀ line : List ℕ) (n size count len : ℕ) (r : Progress) → size ≡ item_size (get_or left 0 0) → count ≡ one_more n
     → Played words₀ (item_in (get_or left 0 0) (take (1 + size - 1) (drop 1 left))) line₀ len words line → r ≡ progress Items count (1 + size) len true
     → Turned (item_turn Whole n words₀ [] left) line₀ r words [] line
-turned-item left words₀ words line₀ line n size count len r es ec p e =
+turned_item left words₀ words line₀ line n size count len r es ec p e =
     let cut : 1 + size - 1 ≡ item_size (get_or left 0 0) = omega (arith, es) in
     let q : Played words₀ (first_item left) line₀ len words line = rw cut at p in
     record {
@@ -147,33 +147,33 @@ turned-item left words₀ words line₀ line n size count len r es ec p e =
     }
 
 -- what stands next, as the function told it
-pub turned-by-set :
+pub turned_by_set :
     (next : Next) (left : List ℕ) (last : Bool) (n : ℕ) (words₀ bodies₀ line₀ : List ℕ) (r : Progress) (words bodies line : List ℕ) → next ≡ next_set left last
     → Turned (set_turn next n words₀ bodies₀ left) line₀ r words bodies line
     → Turned (set_turn (next_set left last) n words₀ bodies₀ left) line₀ r words bodies line
-turned-by-set next left last n words₀ bodies₀ line₀ r words bodies line e t = rw (← e) t
+turned_by_set next left last n words₀ bodies₀ line₀ r words bodies line e t = rw (← e) t
 
-pub turned-by-item :
+pub turned_by_item :
     (next : Next) (left : List ℕ) (last : Bool) (n : ℕ) (words₀ bodies₀ line₀ : List ℕ) (r : Progress) (words bodies line : List ℕ) → next ≡ next_item left last
     → Turned (item_turn next n words₀ bodies₀ left) line₀ r words bodies line
     → Turned (item_turn (next_item left last) n words₀ bodies₀ left) line₀ r words bodies line
-turned-by-item next left last n words₀ bodies₀ line₀ r words bodies line e t = rw (← e) t
+turned_by_item next left last n words₀ bodies₀ line₀ r words bodies line e t = rw (← e) t
 
 -- an item leaves the bodies as they are, whatever they are
-pub item-beside :
+pub item_beside :
     (next : Next) (left : List ℕ) (n : ℕ) (words₀ bodies line₀ : List ℕ) (r : Progress) (words line : List ℕ)
     → Turned (item_turn next n words₀ [] left) line₀ r words [] line → Turned (item_turn next n words₀ bodies left) line₀ r words bodies line
-item-beside Whole left n words₀ bodies line₀ r words line t =
+item_beside Whole left n words₀ bodies line₀ r words line t =
     record { progress_is = t.progress_is; table = t.table; kept = refl; text = t.text; within = t.within }
-item-beside Short left n words₀ bodies line₀ r words line t =
+item_beside Short left n words₀ bodies line₀ r words line t =
     record { progress_is = t.progress_is; table = t.table; kept = refl; text = t.text; within = t.within }
-item-beside Bad left n words₀ bodies line₀ r words line t =
+item_beside Bad left n words₀ bodies line₀ r words line t =
     record { progress_is = t.progress_is; table = t.table; kept = refl; text = t.text; within = t.within }
-item-beside Over left n words₀ bodies line₀ r words line t =
+item_beside Over left n words₀ bodies line₀ r words line t =
     record { progress_is = t.progress_is; table = t.table; kept = refl; text = t.text; within = t.within }
 
 -- where the tape is, as the function told it
-pub turned-at :
+pub turned_at :
     (here stage : Stage) (n : ℕ) (words₀ bodies₀ left : List ℕ) (last : Bool) (line₀ : List ℕ) (r : Progress) (words bodies line : List ℕ) → stage ≡ here
     → Turned (turn_at here n words₀ bodies₀ left last) line₀ r words bodies line → Turned (turn_at stage n words₀ bodies₀ left last) line₀ r words bodies line
-turned-at here stage n words₀ bodies₀ left last line₀ r words bodies line e t = rw e t
+turned_at here stage n words₀ bodies₀ left last line₀ r words bodies line e t = rw e t

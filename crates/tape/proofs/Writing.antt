@@ -80,20 +80,20 @@ counted_end n k rest c h = (omega (arith, c.left, one_place (20 - k) rest h), c.
 pub still_within : (before : List ℕ) (at next : ℕ) (text after : List ℕ) → after ≡ sets before at text → next ≤ length before → next ≤ length after
 still_within before at next text after e h = rw (e, length-sets) h
 
-pub put-digits :
+pub put_digits :
     (before : List ℕ) (at base width v : ℕ) (after : List ℕ) → after ≡ sets before at (digits_of base width v) → at + width ≤ length before
     → Put before at (digits_of base width v) after (at + width)
-put-digits before at base width v after e h =
+put_digits before at base width v after e h =
     record {
       bytes = e;
       place = omega (arith, length_digits base width v);
       within = still_within before at (at + width) (digits_of base width v) after e h;
     }
 
-pub put-places :
+pub put_places :
     (before : List ℕ) (at base k width v : ℕ) (after : List ℕ) → after ≡ sets before at (digits_of base k v) → k ≡ width → at + k ≤ length before
     → Put before at (digits_of base width v) after (at + k)
-put-places before at base k width v after e p h =
+put_places before at base k width v after e p h =
     record {
       bytes = rw (← p) e;
       place = omega (arith, p, length_digits base width v);
@@ -103,10 +103,10 @@ put-places before at base k width v after e p h =
 pub text_turn : (l text : List ℕ) (at i : ℕ) → i < length text → sets (set l (at + i) (get_or text i 0)) (at + (i + 1)) (drop (i + 1) text) ≡ sets l (at + i) (drop i text)
 text_turn l text at i h = rw (drop-cons text i 0 h, add-one, add-suc)
 
-pub text-end :
+pub text_end :
     (l text before : List ℕ) (at i : ℕ) → i ≡ length text → sets l (at + i) (drop i text) ≡ sets before at text → at + i ≤ length l
     → Put before at text l (at + i)
-text-end l text before at i e h w = record { bytes = rw (e, drop-length) at h; place = rw e; within = w }
+text_end l text before at i e h w = record { bytes = rw (e, drop-length) at h; place = rw e; within = w }
 
 pub then : (l m n xs ys : List ℕ) (a b c : ℕ) → Put l a xs m b → Put m b ys n c → Put l a (xs ++ ys) n c
 then l m n xs ys a b c p q =
@@ -135,11 +135,11 @@ pub put_data_none : (l bytes : List ℕ) (at : ℕ) → length bytes ≡ 0 → a
 put_data_none l [] at e h = record { bytes = refl; place = omega arith; within = h }
 put_data_none l (b ∷ bs) at e h = absurd (omega arith)
 
-pub put-data-some :
+pub put_data_some :
     (l bytes after : List ℕ) (at next : ℕ) → (length bytes ≡ 0 → ⊥) → after ≡ sets (set l at 32) (at + 1) (data_hex bytes) → next ≡ at + 1 + 2 * length bytes
     → at + 1 + 2 * length bytes ≤ length l → Put l at (data_text bytes) after next
-put-data-some l [] after at next n e p h = absurd (n refl)
-put-data-some l (b ∷ bs) after at next n e p h =
+put_data_some l [] after at next n e p h = absurd (n refl)
+put_data_some l (b ∷ bs) after at next n e p h =
     record {
       bytes = e ∙ ap (λ (k : ℕ). sets (set l at 32) k (data_hex (b ∷ bs))) (add-one at);
       place = omega (arith, p, length_data (b ∷ bs));

@@ -1,5 +1,5 @@
 use borrow.Author.Rules.{rules}
-use Rattle.card_c.proofs.Region.{answered-at}
+use Rattle.card_c.proofs.Region.{answered_at}
 use Rattle.card_c.proofs.card_command.Statement.{statement}
 use Rattle.card_c.proofs.card_command.Tie as tie
 
@@ -8,4 +8,4 @@ card_command_spec =
     tie.close
     (tie.spec
     (λ c κs. search rules) (λ c κs. search rules) (λ c. search rules) (λ c. search rules) (λ c. search rules)
-    (λ c. answered-at _ _ _ _ _ _ _ _ c.before.before.before.before.before.before.before.before.command.ensures c.before.before.put-reply.ensures))
+    (λ c. answered_at _ _ _ _ _ _ _ _ c.before.before.before.before.before.before.before.before.command.ensures c.before.before.put-reply.ensures))

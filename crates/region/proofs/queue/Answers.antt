@@ -1,6 +1,6 @@
 use mathlib.Core.Path.{refl}
 use native.Mathlib.Omega.{arith}
-use Rattle.table.proofs.Desks.{count_waiting, queued-tells}
+use Rattle.table.proofs.Desks.{count_waiting, queued_tells}
 use Rattle.region.specs.Region.{table_in}
 use Rattle.region.proofs.Words.{length_in, tells_at}
 use Rattle.region.proofs.queue.Goals as goal
@@ -18,5 +18,5 @@ pub returns : goal.returns
 returns c =
     let b = c.args.bytes.now in
     tells_at b _ _ _ _
-    (queued-tells (table_in b) c.requires.0 _ c.desk_of.ensures _ _ refl c.args.id c.requires.1 (omega (arith, c.ranges)) c.queue_and_settle-s.ensures)
+    (queued_tells (table_in b) c.requires.0 _ c.desk_of.ensures _ _ refl c.args.id c.requires.1 (omega (arith, c.ranges)) c.queue_and_settle-s.ensures)
     c.put_desk.ensures

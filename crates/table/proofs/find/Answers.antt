@@ -5,7 +5,7 @@ use native.Mathlib.Omega.{arith}
 use borrow.Author.Rules.{rules}
 use lib.Dec.{lit≤}
 use Rattle.table.specs.Table.{count}
-use Rattle.table.proofs.Search.{not_below, search_all, number_inside, search_number, search_here, look_more, middle_inside, search-up, search_down, search_nowhere, search_zero}
+use Rattle.table.proofs.Search.{not_below, search_all, number_inside, search_number, search_here, look_more, middle_inside, search_up, search_down, search_nowhere, search_zero}
 use Rattle.table.proofs.find.Goals as goal
 use Rattle.table.proofs.find.Goals.{then-identifier-sets+else-table-slot, else-identifier-sets}
 
@@ -68,7 +68,7 @@ pub loop-left-smaller-then-here-want-2 : goal.loop-left-smaller-then-here-want-2
 loop-left-smaller-then-here-want-2 c = let h = look_more _ c.requires _ _ _ _ c.loop-left.invariant (omega (arith, c.loop-left-test.true)) in omega (arith, h)
 
 pub loop-left-preserved-then-here-want-2 : goal.loop-left-preserved-then-here-want-2
-loop-left-preserved-then-here-want-2 c = search-up _ c.requires _ _ _ _ c.loop-left.invariant (omega (arith, c.loop-left-test.true)) c.if-here-want-2.true
+loop-left-preserved-then-here-want-2 c = search_up _ c.requires _ _ _ _ c.loop-left.invariant (omega (arith, c.loop-left-test.true)) c.if-here-want-2.true
 
 pub loop-left-smaller : goal.loop-left-smaller
 loop-left-smaller c = let h = look_more _ c.requires _ _ _ _ c.loop-left.invariant (omega (arith, c.loop-left-test.true)) in omega (arith, h)

@@ -1,5 +1,5 @@
 use borrow.Author.Rules.{rules}
-use Rattle.by_reference.proofs.Filled.{body-put, body_left}
+use Rattle.by_reference.proofs.Filled.{body_put, body_left}
 use Rattle.by_reference.proofs.lists.put_body.Statement.{statement}
 use Rattle.by_reference.proofs.lists.put_body.Tie as tie
 
@@ -12,5 +12,5 @@ put_body_spec =
     (λ c.
     let copied = c.before.before in
     let made = copied.before.before.before in
-    body-put _ _ _ _ _ made.before.if1.true made.body_of.ensures copied.copy-part.ensures)
+    body_put _ _ _ _ _ made.before.if1.true made.body_of.ensures copied.copy-part.ensures)
     (λ c. body_left _ _ _ c.if1.false))

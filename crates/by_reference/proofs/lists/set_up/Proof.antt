@@ -63,7 +63,7 @@ use Rattle.pages.specs.Bodies.{body}
 use Rattle.steps.specs.SetUp.{with_body, first_bodies, SetUp}
 use Rattle.by_reference.specs.Lists.{bodies_of}
 use Rattle.by_reference.proofs.Values.{attributes_val}
-use Rattle.by_reference.proofs.Filled.{blank, Filled, filled_none, filled_more, set-up-all}
+use Rattle.by_reference.proofs.Filled.{blank, Filled, filled_none, filled_more, set_up_all}
 use Rattle.by_reference.specs.contracts.lists.put_body as put
 use Rattle.by_reference.proofs.lists.put_body.Symbol as put-def
 use Rattle.by_reference.proofs.lists.put_body.Symbol.{name as #put-body}
@@ -372,7 +372,7 @@ module _ {M : Type 1} {𝓤 : Ura M} (𝓛 : Logic 𝓤) (at_mem : Memory → SP
         -- [_3 0; what it owns; …; the token 3; the answer's; the last words; …; the fractured borrow 7; its token; res; the list's facts; _16 11; …; _15 13; …; … ; _6 31; …; _5 33; …; _4 35; …; … 37; _2 38; …; _1 40; …; _0 42; …]
         returns ! (look ! 42 refl) $ forget ! 0 refl $ forget ! 11 refl $ forget ! 13 refl $ forget ! 15 refl $ forget ! 17 refl $ forget ! 19 refl $ forget ! 31 refl $ forget ! 33 refl $ forget ! 35 refl $ forget ! 38 refl $ forget ! 40 refl $ forget ! 42 refl $
         move ! (42 ∷ 43 ∷ []) $ free1 ! $ move ! (40 ∷ 41 ∷ []) $ free1 ! $ move ! (38 ∷ 39 ∷ []) $ free1 ! $ move ! (0 ∷ 37 ∷ []) $ free1 ! $ move ! (34 ∷ 35 ∷ []) $ free1 ! $ move ! (32 ∷ 33 ∷ []) $ free1 ! $ move ! (30 ∷ 31 ∷ []) $ free1 ! $ move ! (28 ∷ 29 ∷ []) $ free1 ! $ move ! (26 ∷ 27 ∷ []) $ free1 ! $ move ! (24 ∷ 25 ∷ []) $ free1 ! $ move ! (22 ∷ 23 ∷ []) $ free1 ! $ move ! (20 ∷ 21 ∷ []) $ free1 ! $ move ! (18 ∷ 19 ∷ []) $ free1 ! $ move ! (16 ∷ 17 ∷ []) $ free1 ! $ move ! (14 ∷ 15 ∷ []) $ free1 ! $ move ! (12 ∷ 13 ∷ []) $ free1 ! $ move ! (10 ∷ 11 ∷ []) $ free1 ! $ free0 ! $
-        keep ! (2 ∷ 3 ∷ 4 ∷ 6 ∷ 7 ∷ 8 ∷ 9 ∷ []) $ by ! (exits r zs.0 w l (set-up-all room (lit< tt) ys i bs g (nltb→le i n over) ts zs.0 r e))))))))))))
+        keep ! (2 ∷ 3 ∷ 4 ∷ 6 ∷ 7 ∷ 8 ∷ 9 ∷ []) $ by ! (exits r zs.0 w l (set_up_all room (lit< tt) ys i bs g (nltb→le i n over) ts zs.0 r e))))))))))))
       where
         less : Holds (ltb i n) → i < n
         less under = ltb→lt i n under

@@ -4,7 +4,7 @@ use borrow.Author.Rules.{rules}
 use lib.ListN.{length}
 use Rattle.table.proofs.LegalTables.{legal_known, desk_there}
 use Rattle.commands.specs.declared.Kind.TheVariants.{ReadAggregate}
-use Rattle.by_value.proofs.Passed.{view-fine}
+use Rattle.by_value.proofs.Passed.{view_fine}
 use Rattle.by_value.proofs.NamedCommands.{answered_bad}
 use Rattle.by_value.proofs.Viewed.{unqueued, aggregate_read}
 use Rattle.card.proofs.commanded.answer_aggregate.Statement.{statement}
@@ -25,7 +25,7 @@ answer_aggregate_spec =
     let v = o.before.before.before in
     let s = v.before.before.before.before.before.before in
     λ z.
-    let f = view-fine ReadAggregate s.args.c s.args.given (length s.args.answer.now) _ s.requires.0 v.view-status.ensures z in
+    let f = view_fine ReadAggregate s.args.c s.args.given (length s.args.answer.now) _ s.requires.0 v.view-status.ensures z in
     (omega (arith, f.start refl, o.offset-of.ensures), omega (arith, f.outward, n.needs-out.ensures)))
     (λ c κs. search rules)
     (λ c κs.

@@ -4,7 +4,7 @@ use Rattle.replies.specs.Answers.{refusing}
 use Rattle.steps.specs.Words.{entry_no}
 use Rattle.by_value.proofs.Told.{entered_desk}
 use Rattle.by_value.proofs.EventsAndTicks.{entered}
-use Rattle.by_value.proofs.NamedCommands.{named_bad, named-unknown, named_here}
+use Rattle.by_value.proofs.NamedCommands.{named_bad, named_unknown, named_here}
 use Rattle.card.proofs.commanded.answer_named.Statement.{statement}
 use Rattle.card.proofs.commanded.answer_named.Tie as tie
 
@@ -31,7 +31,7 @@ answer_named_spec =
     let e = c.before.before.before.enum-told2.given.1 in
     let n = c.before.before.before.before.before in
     let s = n.before.before.before.before.before.before.args in
-    λ i m. named-unknown _ s.k s.c s.given.now s.answer.now _ (rw n.before.named_by.ensures at n.enter.ensures) i m _ _ e c.before.before.unknown-status2.ensures (c.refuse2.ensures ∙ ap refusing (c.before.entry-no2.ensures ∙ ap (entry_no _) e)))
+    λ i m. named_unknown _ s.k s.c s.given.now s.answer.now _ (rw n.before.named_by.ensures at n.enter.ensures) i m _ _ e c.before.before.unknown-status2.ensures (c.refuse2.ensures ∙ ap refusing (c.before.entry-no2.ensures ∙ ap (entry_no _) e)))
     (λ c. search rules) (λ c. search rules)
     (λ c.
     let a = c.before.before.before.before in

@@ -3,7 +3,7 @@ use borrow.Author.Rules.{rules}
 use Rattle.table.proofs.LegalTables.{legal_known, desk_there}
 use Rattle.commands.specs.declared.Kind.TheVariants.{GetNotices}
 use Rattle.by_value.proofs.NamedCommands.{answered_bad}
-use Rattle.by_value.proofs.Viewed.{unqueued, viewed_refused, notices-read}
+use Rattle.by_value.proofs.Viewed.{unqueued, viewed_refused, notices_read}
 use Rattle.card.proofs.commanded.answer_notices.Statement.{statement}
 use Rattle.card.proofs.commanded.answer_notices.Tie as tie
 
@@ -23,7 +23,7 @@ answer_notices_spec =
     let t = v.before in
     let s = t.before.before.before in
     λ i before l m.
-    notices-read _ i s.args.c s.args.given before (rw l m) (sym t.before.legal.ensures ∙ t.if1.true) _ (rw l (unqueued GetNotices s.args.c s.args.given s.args.room s.args.table.now _ refl v.view-status.ensures)) _ _ _ q.if2.true o.on-at.ensures c.before.notices-no.ensures c.give.ensures)
+    notices_read _ i s.args.c s.args.given before (rw l m) (sym t.before.legal.ensures ∙ t.if1.true) _ (rw l (unqueued GetNotices s.args.c s.args.given s.args.room s.args.table.now _ refl v.view-status.ensures)) _ _ _ q.if2.true o.on-at.ensures c.before.notices-no.ensures c.give.ensures)
     (λ c.
     let q = c.before in
     let v = q.before in

@@ -4,9 +4,9 @@ use lib.ListN.{length}
 use Rattle.table.specs.Table.{desk_at}
 use Rattle.table.proofs.LegalTables.{legal_known, desk_there}
 use Rattle.commands.specs.declared.Kind.TheVariants.{EventRequest}
-use Rattle.steps.proofs.AtDesk.{request-few}
+use Rattle.steps.proofs.AtDesk.{request_few}
 use Rattle.by_value.proofs.NamedCommands.{answered_bad}
-use Rattle.by_value.proofs.Viewed.{viewed_refused, viewed-told}
+use Rattle.by_value.proofs.Viewed.{viewed_refused, viewed_told}
 use Rattle.card.proofs.commanded.answer_request.Statement.{statement}
 use Rattle.card.proofs.commanded.answer_request.Tie as tie
 
@@ -26,7 +26,7 @@ answer_request_spec =
     let t = w.before.before in
     let s = t.before.before.before.before in (
       desk_there _ (legal_known _ (sym t.before.legal.ensures ∙ t.if1.true)),
-      request-few s.args.c 0 0 (desk_at s.args.table.now).waiting (sym (rw w.waiting-at.ensures at (r.request-status.ensures 0 0)) ∙ q.if2.true),
+      request_few s.args.c 0 0 (desk_at s.args.table.now).waiting (sym (rw w.waiting-at.ensures at (r.request-status.ensures 0 0)) ∙ q.if2.true),
     ))
     (λ c κs. search rules) (λ c κs. search rules) (λ c κs. search rules) (λ c. search rules)
     (λ c.
@@ -38,7 +38,7 @@ answer_request_spec =
     let t = w.before.before in
     let s = t.before.before.before.before in
     λ i given before m.
-    viewed-told _ i EventRequest s.args.c given before m (sym t.before.legal.ensures ∙ t.if1.true) _ (rw w.waiting-at.ensures at (r.request-status.ensures given (length before))) _ _ _ _ q.if2.true (rw u.before.identifier-of.ensures at u.queue.ensures) refl refl a.awaiting.ensures c.beside.ensures)
+    viewed_told _ i EventRequest s.args.c given before m (sym t.before.legal.ensures ∙ t.if1.true) _ (rw w.waiting-at.ensures at (r.request-status.ensures given (length before))) _ _ _ _ q.if2.true (rw u.before.identifier-of.ensures at u.queue.ensures) refl refl a.awaiting.ensures c.beside.ensures)
     (λ c. search rules)
     (λ c.
     let q = c.before in

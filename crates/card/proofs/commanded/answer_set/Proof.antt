@@ -1,6 +1,6 @@
 use borrow.Author.Rules.{rules}
 use Rattle.by_value.proofs.Told.{stored_desk}
-use Rattle.by_value.proofs.OnOneSet.{fine_on, on_refused, on-done}
+use Rattle.by_value.proofs.OnOneSet.{fine_on, on_refused, on_done}
 use Rattle.card.proofs.commanded.answer_set.Statement.{statement}
 use Rattle.card.proofs.commanded.answer_set.Tie as tie
 
@@ -29,7 +29,7 @@ answer_set_spec =
     let h = d.before.before.before.before.before in
     let w = h.before.before.before.before in
     let t = w.before.before.before in
-    on-done _ _ _ _ _ _ _ _ _ t.before.before.load.ensures t.before.status-on.ensures _ _ _ _ _ _ _ t.if1.true w.before.before.after-command.ensures w.store.ensures h.hand-by.ensures d.before.newly-listed.ensures d.settle.ensures c.beside.ensures)
+    on_done _ _ _ _ _ _ _ _ _ t.before.before.load.ensures t.before.status-on.ensures _ _ _ _ _ _ _ t.if1.true w.before.before.after-command.ensures w.store.ensures h.hand-by.ensures d.before.newly-listed.ensures d.settle.ensures c.beside.ensures)
     (λ c. search rules)
     (λ c.
     let t = c.before in

@@ -3,7 +3,7 @@ use borrow.Author.Rules.{rules}
 use Rattle.table.proofs.LegalTables.{legal_known, desk_there}
 use Rattle.commands.specs.declared.Kind.TheVariants.{SetNotices}
 use Rattle.by_value.proofs.NamedCommands.{answered_bad}
-use Rattle.by_value.proofs.Viewed.{unqueued, viewed_refused, viewed-told}
+use Rattle.by_value.proofs.Viewed.{unqueued, viewed_refused, viewed_told}
 use Rattle.card.proofs.commanded.answer_turn.Statement.{statement}
 use Rattle.card.proofs.commanded.answer_turn.Tie as tie
 
@@ -24,7 +24,7 @@ answer_turn_spec =
     let t = v.before in
     let s = t.before.before.before.before in
     λ i before l m.
-    viewed-told _ i SetNotices s.args.c s.args.given before (rw l m) (sym t.before.legal.ensures ∙ t.if1.true) _ (rw l (unqueued SetNotices s.args.c s.args.given s.args.room s.args.table.now _ refl v.view-status.ensures)) _ _ _ _ q.if2.true (rw u.before.turns-on.ensures at u.turn.ensures) refl refl d.done.ensures c.beside.ensures)
+    viewed_told _ i SetNotices s.args.c s.args.given before (rw l m) (sym t.before.legal.ensures ∙ t.if1.true) _ (rw l (unqueued SetNotices s.args.c s.args.given s.args.room s.args.table.now _ refl v.view-status.ensures)) _ _ _ _ q.if2.true (rw u.before.turns-on.ensures at u.turn.ensures) refl refl d.done.ensures c.beside.ensures)
     (λ c. search rules)
     (λ c.
     let q = c.before in

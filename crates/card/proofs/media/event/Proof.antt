@@ -4,7 +4,7 @@ use Rattle.replies.specs.Numbers.{unknown_set}
 use Rattle.replies.specs.Answers.{refusing}
 use Rattle.steps.specs.Words.{entry_no}
 use Rattle.by_value.proofs.Told.{entered_desk, stored_desk}
-use Rattle.by_value.proofs.EventsAndTicks.{entered, event_bad, event_unknown, event-here}
+use Rattle.by_value.proofs.EventsAndTicks.{entered, event_bad, event_unknown, event_here}
 use Rattle.card.proofs.media.event.Statement.{statement}
 use Rattle.card.proofs.media.event.Tie as tie
 
@@ -39,5 +39,5 @@ event_spec =
     let r = w.before.before.before in
     let m = r.before.before.before in
     let p = m.before.before in
-    event-here _ _ p.before.before.before.args.m _ p.enter.ensures _ _ m.e.given.1 _ _ _ _ _ _ _ r.load.ensures w.before.before.after-event.ensures w.store.ensures d.before.newly-listed.ensures
+    event_here _ _ p.before.before.before.args.m _ p.enter.ensures _ _ m.e.given.1 _ _ _ _ _ _ _ r.load.ensures w.before.before.after-event.ensures w.store.ensures d.before.newly-listed.ensures
     d.settle.ensures d.before.before.before.done.ensures c.beside.ensures))

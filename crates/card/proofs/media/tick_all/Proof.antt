@@ -4,9 +4,9 @@ use Prim.Native.Nat.{◌-◌, ◌≤◌}
 use borrow.Author.Rules.{rules}
 use lib.ListN.{length}
 use Rattle.table.specs.Table.{records_of, written_rows, newly}
-use Rattle.table.proofs.Written.{left_to_do, all_start, all_end, all-again}
+use Rattle.table.proofs.Written.{left_to_do, all_start, all_end, all_again}
 use Rattle.by_value.specs.Ticks.{tick_one}
-use Rattle.by_value.proofs.Told.{listing, listing_start, listing_end, listing-again}
+use Rattle.by_value.proofs.Told.{listing, listing_start, listing_end, listing_again}
 use Rattle.card.proofs.media.tick_all.Statement.{statement}
 use Rattle.card.proofs.media.tick_all.Tie as tie
 
@@ -35,8 +35,8 @@ tick_all_spec =
     let a = e.before.before.args in (
       search rules,
       search rules,
-      all-again _ _ _ l.i _ l.invariant.2 d.before.before.loop-test.true _ _ _ d.load.ensures s.before.before.after-tick.ensures s.store.ensures,
-      listing-again (tick_one a.t) _ _ l.i l.new _ l.invariant.3 d.before.before.loop-test.true _ _ _ _ d.load.ensures s.before.before.after-tick.ensures c.newly-listed.ensures s.store.ensures,
+      all_again _ _ _ l.i _ l.invariant.2 d.before.before.loop-test.true _ _ _ d.load.ensures s.before.before.after-tick.ensures s.store.ensures,
+      listing_again (tick_one a.t) _ _ l.i l.new _ l.invariant.3 d.before.before.loop-test.true _ _ _ _ d.load.ensures s.before.before.after-tick.ensures c.newly-listed.ensures s.store.ensures,
     ))
     (λ c. search rules)
     (λ c.

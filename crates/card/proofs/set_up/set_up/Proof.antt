@@ -4,7 +4,7 @@ use borrow.Author.Rules.{rules}
 use lib.ListN.{length}
 use Rattle.table.proofs.Written.{length_rows_written}
 use Rattle.steps.proofs.NewSets.{well}
-use Rattle.by_value.proofs.Bodies.{set_up_refused, set_up_done, headed_length, headed-rows}
+use Rattle.by_value.proofs.Bodies.{set_up_refused, set_up_done, headed_length, headed_rows}
 use Rattle.card.proofs.set_up.set_up.Statement.{statement}
 use Rattle.card.proofs.set_up.set_up.Tie as tie
 
@@ -33,5 +33,5 @@ set_up_spec =
     let v = c.before.before in
     let p = v.before.before.before.before in
     let t = p.before.before.before in
-    set_up_done _ _ _ t.before.refusal.ensures t.if1.true _ (headed-rows _ _ _ _ (well _ _ _ t.before.refusal.ensures t.if1.true).legal p.copy-words.ensures v.write-rows.ensures))
+    set_up_done _ _ _ t.before.refusal.ensures t.if1.true _ (headed_rows _ _ _ _ (well _ _ _ t.before.refusal.ensures t.if1.true).legal p.copy-words.ensures v.write-rows.ensures))
     (λ c. set_up_refused _ _ _ c.before.refusal.ensures c.if1.false))

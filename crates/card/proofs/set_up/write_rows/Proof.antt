@@ -7,7 +7,7 @@ use Rattle.table.specs.Table.{written_rows}
 use Rattle.pages.specs.Bodies.{body_size}
 use Rattle.steps.specs.SetUp.{attributes_from}
 use Rattle.by_value.specs.SetUp.{kept_record}
-use Rattle.by_value.proofs.Bodies.{rows_left, rows_start, rows_end, rows-again}
+use Rattle.by_value.proofs.Bodies.{rows_left, rows_start, rows_end, rows_again}
 use Rattle.card.proofs.set_up.write_rows.Statement.{statement}
 use Rattle.card.proofs.set_up.write_rows.Tie as tie
 
@@ -35,7 +35,7 @@ write_rows_spec =
       search rules,
       search rules,
       search rules,
-      rows-again _ _ _ l.i l.at _ l.invariant.3 a.before.loop-test.true _ _ _ a.attributes-in.ensures s.before.new-record.ensures s.store.ensures,
+      rows_again _ _ _ l.i l.at _ l.invariant.3 a.before.loop-test.true _ _ _ a.attributes-in.ensures s.before.new-record.ensures s.store.ensures,
     ))
     (λ c. search rules)
     (λ c.

@@ -4,7 +4,7 @@ use lib.ListN.{length}
 use Rattle.table.proofs.LegalTables.{legal_known}
 use Rattle.region.specs.Region.{table_in}
 use Rattle.commands.specs.declared.Kind.TheVariants.{Identify}
-use Rattle.by_value.proofs.Passed.{view-fine}
+use Rattle.by_value.proofs.Passed.{view_fine}
 use Rattle.by_value.proofs.NamedCommands.{answered_bad}
 use Rattle.pages.proofs.Entries.{list_long}
 use Rattle.by_value.proofs.Viewed.{unqueued, viewed_refused, identified}
@@ -22,7 +22,7 @@ answer_identify_spec =
     let at-if1 = at-view-status.before in
     let at-legal = at-if1.before in
     let start = at-legal.before.before.before in
-    let s = start.args in (legal_known _ (sym at-legal.legal.ensures ∙ at-if1.if1.true), (view-fine Identify s.c s.given (length s.answer.now) _ start.requires.0 at-view-status.view-status.ensures at-if2.if2.true).outward))
+    let s = start.args in (legal_known _ (sym at-legal.legal.ensures ∙ at-if1.if1.true), (view_fine Identify s.c s.given (length s.answer.now) _ start.requires.0 at-view-status.view-status.ensures at-if2.if2.true).outward))
     (λ c κs. search rules) (λ c κs. search rules) (λ c κs. search rules) (λ c. search rules)
     (λ c.
     let at-set-list-onto = c.before.before.before in
@@ -32,7 +32,7 @@ answer_identify_spec =
     let at-if1 = at-view-status.before in
     let at-legal = at-if1.before in
     let start = at-legal.before.before.before in
-    let s = start.args in let f = view-fine Identify s.c s.given (length s.answer.now) _ start.requires.0 at-view-status.view-status.ensures at-if2.if2.true in
+    let s = start.args in let f = view_fine Identify s.c s.given (length s.answer.now) _ start.requires.0 at-view-status.view-status.ensures at-if2.if2.true in
     λ i m. identified _ i s.c s.given s.answer.now m (sym at-legal.legal.ensures ∙ at-if1.if1.true) _ (unqueued Identify s.c s.given (length s.answer.now) (table_in s.region.now) _ refl at-view-status.view-status.ensures) _ _ _ _ at-if2.if2.true refl (list_long _ _) f.outward (rw at-asked-by.asked_by.ensures at at-set-list-onto.set-list-onto.ensures) c.give.ensures)
     (λ c.
     let at-if2 = c.before in

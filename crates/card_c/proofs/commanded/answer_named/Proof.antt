@@ -3,10 +3,10 @@ use Prim.Native.Nat.{ℕ}
 use borrow.Author.Rules.{rules}
 use Rattle.replies.specs.Answers.{refusing}
 use Rattle.steps.specs.Words.{entry_no}
-use Rattle.by_value.proofs.NamedCommands.{named_bad, named-unknown, named_here}
+use Rattle.by_value.proofs.NamedCommands.{named_bad, named_unknown, named_here}
 use Rattle.region.specs.Region.{table_in}
 use Rattle.region.proofs.Words.{own_region}
-use Rattle.card_c.proofs.Region.{entered_at, entered_there, on_in, answer-out}
+use Rattle.card_c.proofs.Region.{entered_at, entered_there, on_in, answer_out}
 use Rattle.card_c.proofs.commanded.answer_named.Statement.{statement}
 use Rattle.card_c.proofs.commanded.answer_named.Tie as tie
 
@@ -29,7 +29,7 @@ answer_named_spec =
     let at-slice-known = at-named-by.before.before.before.before in
     let start = at-slice-known.before in
     let s = start.args in let b = s.region.now in let e = at-enum-told.enum_told.given.1 in
-    λ i m. answer-out b i s.answer.now _ _ _ _
+    λ i m. answer_out b i s.answer.now _ _ _ _
     (named_bad (table_in b) s.k s.c s.given.now s.answer.now _ (rw at-named-by.named_by.ensures at at-enter.enter.ensures) i m _ e (c.refuse.ensures ∙ ap refusing (at-entry-no.entry-no.ensures ∙ ap (entry_no _) e)))
     (sym (own_region b (λ (i : ℕ). (at-slice-known.slice-known.given i).fits))))
     (λ c. search rules)
@@ -42,8 +42,8 @@ answer_named_spec =
     let at-slice-known = at-named-by.before.before.before.before in
     let start = at-slice-known.before in
     let s = start.args in let b = s.region.now in let e = at-enum-told2.enum-told2.given.1 in
-    λ i m. answer-out b i s.answer.now _ _ _ _
-    (named-unknown (table_in b) s.k s.c s.given.now s.answer.now _ (rw at-named-by.named_by.ensures at at-enter.enter.ensures) i m _ _ e at-unknown-status2.unknown-status2.ensures (c.refuse2.ensures ∙ ap refusing (at-entry-no2.entry-no2.ensures ∙ ap (entry_no _) e)))
+    λ i m. answer_out b i s.answer.now _ _ _ _
+    (named_unknown (table_in b) s.k s.c s.given.now s.answer.now _ (rw at-named-by.named_by.ensures at at-enter.enter.ensures) i m _ _ e at-unknown-status2.unknown-status2.ensures (c.refuse2.ensures ∙ ap refusing (at-entry-no2.entry-no2.ensures ∙ ap (entry_no _) e)))
     (sym (own_region b (λ (i : ℕ). (at-slice-known.slice-known.given i).fits))))
     (λ c. search rules) (λ c. search rules)
     (λ c.
@@ -53,6 +53,6 @@ answer_named_spec =
     let at-named-by = at-enter.before in
     let start = at-named-by.before.before.before.before.before in
     let s = start.args in let b = s.region.now in let o = at-answer-set.answer-set.ensures in
-    λ i m. answer-out b i s.answer.now _ _ _ _
+    λ i m. answer_out b i s.answer.now _ _ _ _
     (named_here (table_in b) s.k s.c s.given.now s.answer.now _ (rw at-named-by.named_by.ensures at at-enter.enter.ensures) i m _ at-e.e.given.1 _ _ _ (on_in b _ s.k s.c s.given.now s.answer.now _ _ _ o))
     o.table))

@@ -4,7 +4,7 @@ use Rattle.table.proofs.LegalTables.{legal_known, desk_there}
 use Rattle.region.specs.Region.{table_in}
 use Rattle.commands.specs.declared.Kind.TheVariants.{GetNotices}
 use Rattle.by_value.proofs.NamedCommands.{answered_bad}
-use Rattle.by_value.proofs.Viewed.{unqueued, viewed_refused, notices-read}
+use Rattle.by_value.proofs.Viewed.{unqueued, viewed_refused, notices_read}
 use Rattle.card_c.proofs.commanded.answer_notices.Statement.{statement}
 use Rattle.card_c.proofs.commanded.answer_notices.Tie as tie
 
@@ -26,7 +26,7 @@ answer_notices_spec =
     let at-if1 = at-view-status.before in
     let at-legal = at-if1.before in
     let start = at-legal.before.before in
-    let s = start.args in λ i before l m. notices-read _ i s.c s.given before (rw l m) (sym at-legal.legal.ensures ∙ at-if1.if1.true) _ (rw l (unqueued GetNotices s.c s.given s.room (table_in s.region.now) _ refl at-view-status.view-status.ensures)) _ _ _ at-if2.if2.true at-on-at.on-at.ensures at-notices-no.notices-no.ensures c.give.ensures)
+    let s = start.args in λ i before l m. notices_read _ i s.c s.given before (rw l m) (sym at-legal.legal.ensures ∙ at-if1.if1.true) _ (rw l (unqueued GetNotices s.c s.given s.room (table_in s.region.now) _ refl at-view-status.view-status.ensures)) _ _ _ at-if2.if2.true at-on-at.on-at.ensures at-notices-no.notices-no.ensures c.give.ensures)
     (λ c.
     let at-if2 = c.before in
     let at-view-status = at-if2.before in

@@ -1,7 +1,7 @@
 use mathlib.Core.Path.{refl, sym}
 use Prim.Native.Nat.{ℕ}
 use borrow.Author.Rules.{rules}
-use Rattle.by_value.proofs.OnOneSet.{fine_on, on_refused, on-done}
+use Rattle.by_value.proofs.OnOneSet.{fine_on, on_refused, on_done}
 use Rattle.region.specs.Region.{table_in}
 use Rattle.region.proofs.Words.{own_region}
 use Rattle.card_c.proofs.Region.{there_stored, stored_told, stored_out, on_out}
@@ -41,7 +41,7 @@ answer_set_spec =
     let start = at-slice-known.before in
     let a = start.args in let b = a.region.now in
     on_out b a.slot.0 a.k a.c a.given.now a.answer.now _ _ _ _
-    (on-done (table_in b) a.slot.0 a.k a.c a.given.now a.answer.now _ _ _ at_load.load.ensures at-status-on.status-on.ensures _ _ _ _ _ _ _ at-if1.if1.true refl refl at-hand-by.hand-by.ensures at-change.change.ensures.1
+    (on_done (table_in b) a.slot.0 a.k a.c a.given.now a.answer.now _ _ _ at_load.load.ensures at-status-on.status-on.ensures _ _ _ _ _ _ _ at-if1.if1.true refl refl at-hand-by.hand-by.ensures at-change.change.ensures.1
     (stored_told b a.slot.0 _ (λ (i : ℕ). (at-slice-known.slice-known.given i).fits) start.requires.3 start.requires.4 _ at-change.change.ensures.0 _ _ _ at-settle.settle.ensures) c.beside.ensures)
     (stored_out b a.slot.0 _ (λ (i : ℕ). (at-slice-known.slice-known.given i).fits) start.requires.3 start.requires.4 _ at-change.change.ensures.0 _ _ _ at-settle.settle.ensures))
     (λ c. search rules)

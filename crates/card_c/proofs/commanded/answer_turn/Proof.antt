@@ -5,8 +5,8 @@ use Rattle.table.proofs.LegalTables.{legal_known, desk_there}
 use Rattle.region.specs.Region.{table_in}
 use Rattle.commands.specs.declared.Kind.TheVariants.{SetNotices}
 use Rattle.by_value.proofs.NamedCommands.{answered_bad}
-use Rattle.by_value.proofs.Viewed.{unqueued, viewed_refused, viewed-told}
-use Rattle.card_c.proofs.Region.{told_alone, answer-out, answer-same}
+use Rattle.by_value.proofs.Viewed.{unqueued, viewed_refused, viewed_told}
+use Rattle.card_c.proofs.Region.{told_alone, answer_out, answer_same}
 use Rattle.card_c.proofs.commanded.answer_turn.Statement.{statement}
 use Rattle.card_c.proofs.commanded.answer_turn.Tie as tie
 
@@ -30,8 +30,8 @@ answer_turn_spec =
     let at-legal = at-if1.before in
     let start = at-legal.before.before.before in
     let s = start.args in let b = s.region.now in let h = rw at-turns-on.turns-on.ensures at at_turn.turn.ensures in
-    λ i before l m. answer-out b i before _ _ _ before
-    (viewed-told (table_in b) i SetNotices s.c s.given before (rw l m) (sym at-legal.legal.ensures ∙ at-if1.if1.true) _ (rw l (unqueued SetNotices s.c s.given s.room (table_in b) _ refl at-view-status.view-status.ensures)) _ _ _ _ at-if2.if2.true (told_alone b _ _ _ h) refl refl at_done.done.ensures c.beside.ensures)
+    λ i before l m. answer_out b i before _ _ _ before
+    (viewed_told (table_in b) i SetNotices s.c s.given before (rw l m) (sym at-legal.legal.ensures ∙ at-if1.if1.true) _ (rw l (unqueued SetNotices s.c s.given s.room (table_in b) _ refl at-view-status.view-status.ensures)) _ _ _ _ at-if2.if2.true (told_alone b _ _ _ h) refl refl at_done.done.ensures c.beside.ensures)
     h.desk)
     (λ c. search rules)
     (λ c.
@@ -41,11 +41,11 @@ answer_turn_spec =
     let at-legal = at-if1.before in
     let at-slice-known = at-legal.before.before in
     let start = at-slice-known.before in
-    let s = start.args in let b = s.region.now in λ i before l m. answer-same b i before _ before (λ (i : ℕ). (at-slice-known.slice-known.given i).fits) (viewed_refused (table_in b) i SetNotices s.c s.given before (rw l m) (sym at-legal.legal.ensures ∙ at-if1.if1.true) _ (rw l (unqueued SetNotices s.c s.given s.room (table_in b) _ refl at-view-status.view-status.ensures)) _ at-if2.if2.false c.refuse.ensures))
+    let s = start.args in let b = s.region.now in λ i before l m. answer_same b i before _ before (λ (i : ℕ). (at-slice-known.slice-known.given i).fits) (viewed_refused (table_in b) i SetNotices s.c s.given before (rw l m) (sym at-legal.legal.ensures ∙ at-if1.if1.true) _ (rw l (unqueued SetNotices s.c s.given s.room (table_in b) _ refl at-view-status.view-status.ensures)) _ at-if2.if2.false c.refuse.ensures))
     (λ c. search rules)
     (λ c.
     let at-if1 = c.before in
     let at-legal = at-if1.before in
     let at-slice-known = at-legal.before.before in
     let start = at-slice-known.before in
-    let s = start.args in λ i before l m. answer-same s.region.now i before _ before (λ (i : ℕ). (at-slice-known.slice-known.given i).fits) (answered_bad _ i _ _ (sym at-legal.legal.ensures ∙ at-if1.if1.false) c.refuse2.ensures)))
+    let s = start.args in λ i before l m. answer_same s.region.now i before _ before (λ (i : ℕ). (at-slice-known.slice-known.given i).fits) (answered_bad _ i _ _ (sym at-legal.legal.ensures ∙ at-if1.if1.false) c.refuse2.ensures)))

@@ -2,7 +2,7 @@ use mathlib.Core.Path.{refl, sym, ◌∙◌}
 use mathlib.Core.Bool.{false≢true}
 use Prim.Native.Nat.{ℕ}
 use borrow.Author.Rules.{rules}
-use Rattle.card_c.proofs.Region.{answer-same}
+use Rattle.card_c.proofs.Region.{answer_same}
 use Rattle.card_c.proofs.commanded.answer_view.Statement.{statement}
 use Rattle.card_c.proofs.commanded.answer_view.Tie as tie
 
@@ -53,7 +53,7 @@ answer_view_spec =
     let at-enum-told4 = c.before.before in
     let at-slice-known = at-enum-told4.before.before.before in
     let start = at-slice-known.before in
-    rw at-enum-told4.enum-told4.given.1 (λ i m. answer-same start.args.region.now i start.args.answer.now _ _ (λ (i : ℕ). (at-slice-known.slice-known.given i).fits) (c.answer-notices.ensures i _ refl m)))
+    rw at-enum-told4.enum-told4.given.1 (λ i m. answer_same start.args.region.now i start.args.answer.now _ _ (λ (i : ℕ). (at-slice-known.slice-known.given i).fits) (c.answer-notices.ensures i _ refl m)))
     (λ c.
     let at-enum-told5 = c.before in
     let start = at-enum-told5.before.before.before.before in
@@ -83,4 +83,4 @@ answer_view_spec =
     let at-enum-told10 = at-answer-identify.before.before.before in
     let at-slice-known = at-enum-told10.before.before.before in
     let start = at-slice-known.before in
-    rw at-enum-told10.enum-told10.given.1 (λ i m. answer-same start.args.region.now i start.args.answer.now _ _ (λ (i : ℕ). (at-slice-known.slice-known.given i).fits) (at-answer-identify.answer-identify.ensures i m))))
+    rw at-enum-told10.enum-told10.given.1 (λ i m. answer_same start.args.region.now i start.args.answer.now _ _ (λ (i : ℕ). (at-slice-known.slice-known.given i).fits) (at-answer-identify.answer-identify.ensures i m))))

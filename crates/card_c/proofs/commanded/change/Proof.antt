@@ -1,6 +1,6 @@
 use Prim.Native.Nat.{ℕ}
 use borrow.Author.Rules.{rules}
-use Rattle.card_c.proofs.Region.{not-stored, lists_still}
+use Rattle.card_c.proofs.Region.{not_stored, lists_still}
 use Rattle.card_c.proofs.commanded.change.Statement.{statement}
 use Rattle.card_c.proofs.commanded.change.Tie as tie
 
@@ -17,7 +17,7 @@ change_spec =
     (λ c.
     let at-slice-known = c.before.before.before in
     let start = at-slice-known.before in
-    let s = start.args in rw c.enum_told.given.1 (not-stored s.region.now s.slot.0 s.r start.requires.0 (λ (i : ℕ). (at-slice-known.slice-known.given i).fits) start.requires.1, lists_still s.r))
+    let s = start.args in rw c.enum_told.given.1 (not_stored s.region.now s.slot.0 s.r start.requires.0 (λ (i : ℕ). (at-slice-known.slice-known.given i).fits) start.requires.1, lists_still s.r))
     (λ c. search rules)
     (λ c.
     let at-config-at = c.before.before in
@@ -32,15 +32,15 @@ change_spec =
     (λ c.
     let at-slice-known = c.before.before.before in
     let start = at-slice-known.before in
-    let s = start.args in rw c.enum-told4.given.1 (not-stored s.region.now s.slot.0 s.r start.requires.0 (λ (i : ℕ). (at-slice-known.slice-known.given i).fits) start.requires.1, lists_still s.r))
+    let s = start.args in rw c.enum-told4.given.1 (not_stored s.region.now s.slot.0 s.r start.requires.0 (λ (i : ℕ). (at-slice-known.slice-known.given i).fits) start.requires.1, lists_still s.r))
     (λ c.
     let at-slice-known = c.before.before.before in
     let start = at-slice-known.before in
-    let s = start.args in rw c.enum-told5.given.1 (not-stored s.region.now s.slot.0 s.r start.requires.0 (λ (i : ℕ). (at-slice-known.slice-known.given i).fits) start.requires.1, lists_still s.r))
+    let s = start.args in rw c.enum-told5.given.1 (not_stored s.region.now s.slot.0 s.r start.requires.0 (λ (i : ℕ). (at-slice-known.slice-known.given i).fits) start.requires.1, lists_still s.r))
     (λ c.
     let at-slice-known = c.before.before.before in
     let start = at-slice-known.before in
-    let s = start.args in rw c.enum-told6.given.1 (not-stored s.region.now s.slot.0 s.r start.requires.0 (λ (i : ℕ). (at-slice-known.slice-known.given i).fits) start.requires.1, lists_still s.r))
+    let s = start.args in rw c.enum-told6.given.1 (not_stored s.region.now s.slot.0 s.r start.requires.0 (λ (i : ℕ). (at-slice-known.slice-known.given i).fits) start.requires.1, lists_still s.r))
     (λ c. search rules)
     (λ c.
     let at-read-at = c.before.before in
@@ -50,12 +50,12 @@ change_spec =
     (λ c.
     let at-slice-known = c.before.before.before in
     let start = at-slice-known.before in
-    let s = start.args in rw c.enum-told8.given.1 (not-stored s.region.now s.slot.0 s.r start.requires.0 (λ (i : ℕ). (at-slice-known.slice-known.given i).fits) start.requires.1, lists_still s.r))
+    let s = start.args in rw c.enum-told8.given.1 (not_stored s.region.now s.slot.0 s.r start.requires.0 (λ (i : ℕ). (at-slice-known.slice-known.given i).fits) start.requires.1, lists_still s.r))
     (λ c.
     let at-slice-known = c.before.before.before in
     let start = at-slice-known.before in
-    let s = start.args in rw c.enum-told9.given.1 (not-stored s.region.now s.slot.0 s.r start.requires.0 (λ (i : ℕ). (at-slice-known.slice-known.given i).fits) start.requires.1, lists_still s.r))
+    let s = start.args in rw c.enum-told9.given.1 (not_stored s.region.now s.slot.0 s.r start.requires.0 (λ (i : ℕ). (at-slice-known.slice-known.given i).fits) start.requires.1, lists_still s.r))
     (λ c.
     let at-slice-known = c.before.before.before in
     let start = at-slice-known.before in
-    let s = start.args in rw c.enum-told10.given.1 (not-stored s.region.now s.slot.0 s.r start.requires.0 (λ (i : ℕ). (at-slice-known.slice-known.given i).fits) start.requires.1, lists_still s.r)))
+    let s = start.args in rw c.enum-told10.given.1 (not_stored s.region.now s.slot.0 s.r start.requires.0 (λ (i : ℕ). (at-slice-known.slice-known.given i).fits) start.requires.1, lists_still s.r)))

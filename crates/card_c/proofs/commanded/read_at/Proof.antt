@@ -3,7 +3,7 @@ use Prim.Native.Nat.{ℕ}
 use borrow.Author.Rules.{rules}
 use Rattle.rules.specs.Rules.{clearing_read}
 use Rattle.region.specs.Region.{record_at, with_record}
-use Rattle.card_c.proofs.Region.{is_moved, not-stored, lists_still, lists_cleared}
+use Rattle.card_c.proofs.Region.{is_moved, not_stored, lists_still, lists_cleared}
 use Rattle.card_c.proofs.commanded.read_at.Statement.{statement}
 use Rattle.card_c.proofs.commanded.read_at.Tie as tie
 
@@ -16,7 +16,7 @@ read_at_spec =
     let at-retains = c.before in
     let at-slice-known = at-retains.before in
     let start = at-slice-known.before in
-    let s = start.args in λ given. rw (sym at-retains.retains.ensures ∙ c.if1.true) (not-stored s.region.now s.slot.0 s.r start.requires.0 (λ (i : ℕ). (at-slice-known.slice-known.given i).fits) start.requires.1, lists_still s.r))
+    let s = start.args in λ given. rw (sym at-retains.retains.ensures ∙ c.if1.true) (not_stored s.region.now s.slot.0 s.r start.requires.0 (λ (i : ℕ). (at-slice-known.slice-known.given i).fits) start.requires.1, lists_still s.r))
     (λ c κs. search rules)
     (λ c κs.
     let start = c.before.before.before.before.before in

@@ -3,7 +3,7 @@ use borrow.Author.Rules.{rules}
 use Rattle.rules.specs.Rules.{excursion_event}
 use Rattle.rules.proofs.Staying.{excursion_stays}
 use Rattle.region.specs.Region.{record_at}
-use Rattle.card_c.proofs.Region.{stays, ruled-at}
+use Rattle.card_c.proofs.Region.{stays, ruled_at_lem}
 use Rattle.card_c.proofs.media.excursion_at.Statement.{statement}
 use Rattle.card_c.proofs.media.excursion_at.Tie as tie
 
@@ -22,4 +22,4 @@ excursion_at_spec =
     let at-excursion-event = at-store-effect.before in
     let at_load = at-excursion-event.before.before.before.before in
     let start = at_load.before.before.before in
-    let s = start.args in ruled-at excursion_event (record_at s.region.now s.slot.0) _ _ at_load.load.ensures at-excursion-event.excursion-event.ensures s.region.now s.slot.0 _ _ refl at-store-effect.store-effect.ensures))
+    let s = start.args in ruled_at_lem excursion_event (record_at s.region.now s.slot.0) _ _ at_load.load.ensures at-excursion-event.excursion-event.ensures s.region.now s.slot.0 _ _ refl at-store-effect.store-effect.ensures))

@@ -3,7 +3,7 @@ use borrow.Author.Rules.{rules}
 use Rattle.rules.specs.Rules.{read_event}
 use Rattle.rules.proofs.Staying.{read_stays}
 use Rattle.region.specs.Region.{record_at}
-use Rattle.card_c.proofs.Region.{stays, ruled-at}
+use Rattle.card_c.proofs.Region.{stays, ruled_at_lem}
 use Rattle.card_c.proofs.media.reads_at.Statement.{statement}
 use Rattle.card_c.proofs.media.reads_at.Tie as tie
 
@@ -22,4 +22,4 @@ reads_at_spec =
     let at-read-event = at-store-effect.before in
     let at_load = at-read-event.before.before.before.before in
     let start = at_load.before.before.before in
-    let s = start.args in ruled-at (read_event s.k) (record_at s.region.now s.slot.0) _ _ at_load.load.ensures at-read-event.read-event.ensures s.region.now s.slot.0 _ _ refl at-store-effect.store-effect.ensures))
+    let s = start.args in ruled_at_lem (read_event s.k) (record_at s.region.now s.slot.0) _ _ at_load.load.ensures at-read-event.read-event.ensures s.region.now s.slot.0 _ _ refl at-store-effect.store-effect.ensures))

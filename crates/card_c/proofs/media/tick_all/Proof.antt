@@ -8,11 +8,11 @@ use Rattle.octets.specs.Words.{word_size}
 use Rattle.table.specs.Table.{row_start, records_of, newly}
 use Rattle.table.proofs.LegalTables.{length_records}
 use Rattle.region.proofs.Words.{length_in}
-use Rattle.region.proofs.EveryRow.{Undone, undone_start, undone-legal, undone-turn, undone-all}
+use Rattle.region.proofs.EveryRow.{Undone, undone_start, undone_legal, undone_turn, undone_all}
 use Rattle.region.specs.Region.{table_in}
 use Rattle.by_value.specs.Ticks.{tick_one}
 use Rattle.by_value.proofs.Told.{listing, listing_start, listing_end}
-use Rattle.card_c.proofs.Region.{listing-turn}
+use Rattle.card_c.proofs.Region.{listing_turn}
 use Rattle.card_c.proofs.media.tick_all.Statement.{statement}
 use Rattle.card_c.proofs.media.tick_all.Tie as tie
 
@@ -37,7 +37,7 @@ tick_all_spec =
     let t = c.before in
     let l = t.before.loop in
     let s = t.before.before.before in
-    undone-legal (tick_one s.args.t) s.args.region.now s.args.n l.region l.i s.requires.0 s.requires.1 t.loop-test.true l.invariant.0)
+    undone_legal (tick_one s.args.t) s.args.region.now s.args.n l.region l.i s.requires.0 s.requires.1 t.loop-test.true l.invariant.0)
     (λ c. search rules) (λ c. search rules)
     (λ c.
     let d = c.before.before in
@@ -46,8 +46,8 @@ tick_all_spec =
     let z = t.before.before.before in
     let b = z.args.region.now in
     let room : row_start z.args.n ≤ length b / word_size = omega (arith, z.requires.0, z.requires.1.room, length_in b) in (
-      undone-turn (tick_one z.args.t) b z.args.n l.region l.i room t.loop-test.true l.invariant.0 _ d.tick-at.ensures.table,
-      listing-turn (tick_one z.args.t) b z.args.n l.region l.i room t.loop-test.true l.invariant.0 l.new _ l.invariant.1 _ d.tick-at.ensures.listed,
+      undone_turn (tick_one z.args.t) b z.args.n l.region l.i room t.loop-test.true l.invariant.0 _ d.tick-at.ensures.table,
+      listing_turn (tick_one z.args.t) b z.args.n l.region l.i room t.loop-test.true l.invariant.0 l.new _ l.invariant.1 _ d.tick-at.ensures.listed,
     ))
     (λ c. search rules)
     (λ c.
@@ -55,7 +55,7 @@ tick_all_spec =
     let k = c.before.before in
     let z = k.before in
     let b = z.args.region.now in (
-      undone-all (tick_one z.args.t) b z.args.n l.region l.i (λ (i : ℕ). (k.slice-known.given i).fits)
+      undone_all (tick_one z.args.t) b z.args.n l.region l.i (λ (i : ℕ). (k.slice-known.given i).fits)
           (omega (arith, z.requires.1.room, length_in b, length_records (table_in b))) c.loop-test.false l.invariant.0,
       listing_end _ (table_in b) _ l.i _ _ l.invariant.1 c.loop-test.false,
     )))

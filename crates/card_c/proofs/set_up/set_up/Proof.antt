@@ -11,7 +11,7 @@ use Rattle.octets.proofs.WordBytes.{length_put_words}
 use Rattle.table.specs.Card.{layout_number}
 use Rattle.steps.specs.SetUp.{bodies}
 use Rattle.steps.proofs.NewSets.{well}
-use Rattle.card_c.proofs.Filling.{new_refused, new-done}
+use Rattle.card_c.proofs.Filling.{new_refused, new_done}
 use Rattle.card_c.proofs.set_up.set_up.Statement.{statement}
 use Rattle.card_c.proofs.set_up.set_up.Tie as tie
 
@@ -42,7 +42,7 @@ set_up_spec =
     let at-refusal = at-if1.before in
     let at-slice-known = at-refusal.before.before in
     let start = at-slice-known.before in
-    let a = start.args in new-done a.bodies.now a.region.now _ (λ (i : ℕ). (at-slice-known.slice-known.given i).fits) at-refusal.refusal.ensures at-if1.if1.true _ _ at-words-out.words-out.ensures at-write-rows.write-rows.ensures)
+    let a = start.args in new_done a.bodies.now a.region.now _ (λ (i : ℕ). (at-slice-known.slice-known.given i).fits) at-refusal.refusal.ensures at-if1.if1.true _ _ at-words-out.words-out.ensures at-write-rows.write-rows.ensures)
     (λ c.
     let at-refusal = c.before in
     let at-slice-known = at-refusal.before.before in

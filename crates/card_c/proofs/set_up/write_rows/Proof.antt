@@ -1,7 +1,7 @@
 use Prim.Native.Nat.{ℕ, ◌-◌}
 use native.Mathlib.Omega.{arith}
 use borrow.Author.Rules.{rules}
-use Rattle.card_c.proofs.Filling.{Filling, filling_start, filling-turn, filling_end}
+use Rattle.card_c.proofs.Filling.{Filling, filling_start, filling_turn, filling_end}
 use Rattle.card_c.proofs.set_up.write_rows.Statement.{statement}
 use Rattle.card_c.proofs.set_up.write_rows.Tie as tie
 
@@ -35,7 +35,7 @@ write_rows_spec =
     let t = a.before in
     let l = t.before.loop in
     let z = t.before.before.before.before in
-    filling-turn z.args.bodies.now z.args.region.now z.args.n l.region l.at l.i z.requires.1 t.loop-test.true l.invariant
+    filling_turn z.args.bodies.now z.args.region.now z.args.n l.region l.at l.i z.requires.1 t.loop-test.true l.invariant
     _ _ _ a.attributes-in.ensures s.before.new-record.ensures s.store.ensures)
     (λ c. search rules)
     (λ c.

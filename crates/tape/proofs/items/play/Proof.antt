@@ -1,6 +1,6 @@
 use mathlib.Core.Path.{sym, ◌∙◌}
 use borrow.Author.Rules.{rules}
-use Rattle.tape.proofs.Playing.{known_item, played-item, played_none}
+use Rattle.tape.proofs.Playing.{known_item, played_item, played_none}
 use Rattle.tape.proofs.items.play.Statement.{statement}
 use Rattle.tape.proofs.items.play.Tie as tie
 
@@ -17,7 +17,7 @@ play_spec =
     (λ c.
     let i = c.before.before.before.before.before in
     let s = i.before.before.before.before in
-    played-item _ s.args.kind s.args.body.now _ _ _ _ (sym i.before.is-item.ensures ∙ i.if1.true) c.before.before.play-item.ensures)
+    played_item _ s.args.kind s.args.body.now _ _ _ _ (sym i.before.is-item.ensures ∙ i.if1.true) c.before.before.play-item.ensures)
     (λ c.
     let s = c.before.before.before.before in
     played_none _ s.args.kind s.args.body.now _ (sym c.before.is-item.ensures ∙ c.if1.false)))

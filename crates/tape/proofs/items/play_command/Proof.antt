@@ -1,5 +1,5 @@
 use borrow.Author.Rules.{rules}
-use Rattle.tape.proofs.Playing.{played-handed}
+use Rattle.tape.proofs.Playing.{played_handed}
 use Rattle.tape.proofs.items.play_command.Statement.{statement}
 use Rattle.tape.proofs.items.play_command.Tie as tie
 
@@ -15,4 +15,4 @@ play_command_spec =
     (λ c.
     let l = c.before.before.before.before in
     let p = l.before.before.before.before.before in
-    played-handed _ _ _ _ _ _ _ _ _ _ _ _ _ _ _ p.command-part.ensures c.before.notice-of.ensures l.item-line.ensures.0 c.notice-line.ensures))
+    played_handed _ _ _ _ _ _ _ _ _ _ _ _ _ _ _ p.command-part.ensures c.before.notice-of.ensures l.item-line.ensures.0 c.notice-line.ensures))

@@ -1,5 +1,5 @@
 use borrow.Author.Rules.{rules}
-use Rattle.tape.proofs.Playing.{played-bare}
+use Rattle.tape.proofs.Playing.{played_bare}
 use Rattle.tape.proofs.items.play_event.Statement.{statement}
 use Rattle.tape.proofs.items.play_event.Tie as tie
 
@@ -13,4 +13,4 @@ play_event_spec =
     (λ c.
     let l = c.before.before in
     let e = l.before.before.before.before.before in
-    played-bare _ _ _ _ _ _ _ _ _ e.event.ensures l.item-line.ensures.0 c.notice-line.ensures))
+    played_bare _ _ _ _ _ _ _ _ _ e.event.ensures l.item-line.ensures.0 c.notice-line.ensures))

@@ -1,5 +1,5 @@
 use borrow.Author.Rules.{rules}
-use Rattle.tape.proofs.Playing.{played-answer}
+use Rattle.tape.proofs.Playing.{played_answer}
 use Rattle.tape.proofs.items.play_tick.Statement.{statement}
 use Rattle.tape.proofs.items.play_tick.Tie as tie
 
@@ -14,4 +14,4 @@ play_tick_spec =
     (λ c.
     let l = c.before.before in
     let t = l.before.before.before.before.before.before.before in
-    played-answer _ _ _ _ _ _ _ _ _ _ _ t.ticks.ensures l.item-line.ensures.0 c.notice-line.ensures))
+    played_answer _ _ _ _ _ _ _ _ _ _ _ t.ticks.ensures l.item-line.ensures.0 c.notice-line.ensures))

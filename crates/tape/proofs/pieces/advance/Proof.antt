@@ -1,6 +1,6 @@
 use native.Mathlib.Omega.{arith}
 use borrow.Author.Rules.{rules}
-use Rattle.tape.proofs.Advancing.{advanced-stopped, line_fits, used_fits, advanced-moved}
+use Rattle.tape.proofs.Advancing.{advanced_stopped, line_fits, used_fits, advanced_moved}
 use Rattle.tape.proofs.pieces.advance.Statement.{statement}
 use Rattle.tape.proofs.pieces.advance.Tie as tie
 
@@ -11,7 +11,7 @@ advance_spec =
     (λ c. search rules) (λ c κs. search rules)
     (λ c.
     let s = c.before.before.before.before.before in
-    advanced-stopped s.args.p s.args.table.now s.args.bodies.now s.args.out.now s.args.piece.now s.args.last _ s.requires.0 s.requires.1 c.before.if1.true c.made.ensures)
+    advanced_stopped s.args.p s.args.table.now s.args.bodies.now s.args.out.now s.args.piece.now s.args.last _ s.requires.0 s.requires.1 c.before.if1.true c.made.ensures)
     (λ c. search rules) (λ c. search rules) (λ c. search rules) (λ c κs. search rules)
     (λ c κs.
     let s = c.before.before.before.before.before.before.before.before.before.before.before.before.before.before in
@@ -22,4 +22,4 @@ advance_spec =
     (λ c κs. search rules) (λ c. search rules) (λ c. search rules)
     (λ c.
     let s = c.before.before.before.before.before.before.before.before.before.before.before.before.before.before.before.before.before.before.before in
-    advanced-moved s.args.p s.args.table.now s.args.bodies.now s.args.out.now s.args.piece.now s.args.last _ _ _ _ _ c.before.before.before.before.before.before.before.before.before.before.turn.ensures c.before.before.before.before.before.before.before.before.before.before.before.before.before.before.before.if1.false s.requires.0 s.requires.1 _ _ _ c.before.before.before.before.append.ensures c.made2.ensures))
+    advanced_moved s.args.p s.args.table.now s.args.bodies.now s.args.out.now s.args.piece.now s.args.last _ _ _ _ _ c.before.before.before.before.before.before.before.before.before.before.turn.ensures c.before.before.before.before.before.before.before.before.before.before.before.before.before.before.before.if1.false s.requires.0 s.requires.1 _ _ _ c.before.before.before.before.append.ensures c.made2.ensures))

@@ -1,5 +1,5 @@
 use borrow.Author.Rules.{rules}
-use Rattle.tape.proofs.Turns.{turned-item}
+use Rattle.tape.proofs.Turns.{turned_item}
 use Rattle.tape.proofs.pieces.play_first.Statement.{statement}
 use Rattle.tape.proofs.pieces.play_first.Tie as tie
 
@@ -11,4 +11,4 @@ play_first_spec =
     (λ c. search rules) (λ c κs. search rules) (λ c κs. search rules) (λ c κs. search rules) (λ c. search rules)
     (λ c.
     let s = c.before.before.before.before.before.before.before.before.before.before.before.before in
-    turned-item s.args.left.now _ _ _ _ s.args.n _ _ _ _ c.before.before.before.before.before.before.before.before.item-size.ensures c.before.one_more_lem.ensures c.before.before.before.before.play.ensures c.made.ensures))
+    turned_item s.args.left.now _ _ _ _ s.args.n _ _ _ _ c.before.before.before.before.before.before.before.before.item-size.ensures c.before.one_more_lem.ensures c.before.before.before.before.play.ensures c.made.ensures))

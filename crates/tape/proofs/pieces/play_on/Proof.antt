@@ -7,7 +7,7 @@ use borrow.Author.Rules.{rules}
 use lib.ListN.{length}
 use Rattle.tape.specs.Pieces.{player, turns, most_turns}
 use Rattle.tape.specs.declared.Progress.{Progress}
-use Rattle.tape.proofs.Advancing.{turns-again, turns-stop, played-on}
+use Rattle.tape.proofs.Advancing.{turns_again, turns_stop, played_on}
 use Rattle.tape.proofs.pieces.play_on.Statement.{statement}
 use Rattle.tape.proofs.pieces.play_on.Tie as tie
 
@@ -39,16 +39,16 @@ play_on_spec =
     let l = c.before.before.before.before.before.before.before.before.before.before.before.loop in
     let a = c.before.before.before.before.before.advance.ensures in
     let s = c.before.before.before.before.before.before.before.before.before.before.before.before.before.before.before.before in
-    record { table_length = search rules; out_length = search rules; used = a.used_within; len = a.text_within; left = turns-again _ s.args.piece.now s.args.last _ _ _ c.before.before.before.before.before.before.before.before.before.before.loop-test.true a c.if1.true l.invariant.left })
+    record { table_length = search rules; out_length = search rules; used = a.used_within; len = a.text_within; left = turns_again _ s.args.piece.now s.args.last _ _ _ c.before.before.before.before.before.before.before.before.before.before.loop-test.true a c.if1.true l.invariant.left })
     (λ c. search rules)
     (λ c.
     let l = c.before.before.before.before.before.before.before.before.before.before.before.loop in
     let a = c.before.before.before.before.before.advance.ensures in
     let s = c.before.before.before.before.before.before.before.before.before.before.before.before.before.before.before.before in
-    record { table_length = search rules; out_length = search rules; used = a.used_within; len = a.text_within; left = turns-stop _ s.args.piece.now s.args.last _ _ _ c.before.before.before.before.before.before.before.before.before.before.loop-test.true a c.if1.false l.invariant.left })
+    record { table_length = search rules; out_length = search rules; used = a.used_within; len = a.text_within; left = turns_stop _ s.args.piece.now s.args.last _ _ _ c.before.before.before.before.before.before.before.before.before.before.loop-test.true a c.if1.false l.invariant.left })
     (λ c. c.before.loop.invariant.table_length)
     (λ c. c.before.loop.invariant.out_length)
     (λ c.
     let i = c.before.loop.invariant in
     let s = c.before.before.before.before.before.before in
-    played-on _ s.args.p _ _ _ _ s.args.last _ _ _ _ c.loop-test.false i.used i.len (rw c.before.before.made.ensures at i.left)))
+    played_on _ s.args.p _ _ _ _ s.args.last _ _ _ _ c.loop-test.false i.used i.len (rw c.before.before.made.ensures at i.left)))

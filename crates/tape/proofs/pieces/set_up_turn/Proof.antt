@@ -1,5 +1,5 @@
 use borrow.Author.Rules.{rules}
-use Rattle.tape.proofs.Turns.{turned-set-up, turned-set-up-refused}
+use Rattle.tape.proofs.Turns.{turned_set_up, turned_set_up_refused}
 use Rattle.tape.proofs.pieces.set_up_turn.Statement.{statement}
 use Rattle.tape.proofs.pieces.set_up_turn.Tie as tie
 
@@ -11,8 +11,8 @@ set_up_turn_spec =
     (λ c κs. search rules) (λ c κs. search rules) (λ c κs. search rules) (λ c. search rules)
     (λ c.
     let s = c.before.before.before.before.before.before.before.before.before.before.before.before in
-    turned-set-up s.args.n _ _ s.args.bodies.now _ _ _ _ _ _ s.requires c.before.before.before.before.before.before.before.before.before.kept-len.ensures c.before.before.before.before.before.before.set-up.ensures c.before.before.sets-line.ensures c.before.if1.true c.made.ensures)
+    turned_set_up s.args.n _ _ s.args.bodies.now _ _ _ _ _ _ s.requires c.before.before.before.before.before.before.before.before.before.kept-len.ensures c.before.before.before.before.before.before.set-up.ensures c.before.before.sets-line.ensures c.before.if1.true c.made.ensures)
     (λ c. search rules)
     (λ c.
     let s = c.before.before.before.before.before.before.before.before.before.before.before.before in
-    turned-set-up-refused s.args.n _ _ s.args.bodies.now _ _ _ _ _ _ s.requires c.before.before.before.before.before.before.before.before.before.kept-len.ensures c.before.before.before.before.before.before.set-up.ensures c.before.before.sets-line.ensures c.before.if1.false c.made2.ensures))
+    turned_set_up_refused s.args.n _ _ s.args.bodies.now _ _ _ _ _ _ s.requires c.before.before.before.before.before.before.before.before.before.kept-len.ensures c.before.before.before.before.before.before.set-up.ensures c.before.before.sets-line.ensures c.before.if1.false c.made2.ensures))

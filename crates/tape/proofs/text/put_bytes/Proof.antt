@@ -30,8 +30,8 @@ put_bytes_spec =
     let s = p.before.before.before.before.before.before.before.before in (
       search rules,
       search rules,
-      rw (p.put-digits.ensures, length-sets) l.invariant.2,
-      rw (p.put-digits.ensures, p.before.from_byte.ensures.0) (data_turn l.out s.args.bytes.now l.to l.i (search rules) ∙ l.invariant.3),
+      rw (p.put_digits.ensures, length-sets) l.invariant.2,
+      rw (p.put_digits.ensures, p.before.from_byte.ensures.0) (data_turn l.out s.args.bytes.now l.to l.i (search rules) ∙ l.invariant.3),
     ))
     (λ c. search rules)
     (λ c.

@@ -2,7 +2,7 @@ use mathlib.Core.Path.{refl}
 use lib.ListN.{length-set}
 use lib.Seq.{length-sets}
 use borrow.Author.Rules.{rules}
-use Rattle.tape.proofs.Writing.{put_data_none, put-data-some}
+use Rattle.tape.proofs.Writing.{put_data_none, put_data_some}
 use Rattle.tape.proofs.text.put_data.Statement.{statement}
 use Rattle.tape.proofs.text.put_data.Tie as tie
 
@@ -14,4 +14,4 @@ put_data_spec =
     (λ c. search rules) (λ c. search rules) (λ c κs. search rules) (λ c. search rules) (λ c. search rules)
     (λ c. search rules)
     (λ c. rw (c.before.before.put_bytes.ensures, length-sets, length-set))
-    (λ c. let i = c.before.before.before.before in (put-data-some _ i.before.before.before.args.bytes.now _ _ _ i.if1.false c.before.before.put_bytes.ensures refl (search rules), search rules)))
+    (λ c. let i = c.before.before.before.before in (put_data_some _ i.before.before.before.args.bytes.now _ _ _ i.if1.false c.before.before.put_bytes.ensures refl (search rules), search rules)))

@@ -1,6 +1,6 @@
 use native.Mathlib.Omega.{arith}
 use borrow.Author.Rules.{rules}
-use Rattle.tape.proofs.Writing.{put-places}
+use Rattle.tape.proofs.Writing.{put_places}
 use Rattle.tape.proofs.text.put_decimal.Statement.{statement}
 use Rattle.tape.proofs.text.put_decimal.Tie as tie
 
@@ -11,4 +11,4 @@ put_decimal_spec =
     (λ c κs. search rules) (λ c κs. search rules) (λ c. search rules) (λ c. search rules)
     (λ c.
     let p = c.before.before.before.before.places_of.ensures in
-    (put-places _ _ 10 _ _ _ _ c.before.before.put-digits.ensures p.0 (omega (arith, p.1)), omega (arith, p.1))))
+    (put_places _ _ 10 _ _ _ _ c.before.before.put_digits.ensures p.0 (omega (arith, p.1)), omega (arith, p.1))))

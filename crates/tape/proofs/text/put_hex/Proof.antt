@@ -1,5 +1,5 @@
 use borrow.Author.Rules.{rules}
-use Rattle.tape.proofs.Writing.{put-digits}
+use Rattle.tape.proofs.Writing.{put_digits}
 use Rattle.tape.proofs.text.put_hex.Statement.{statement}
 use Rattle.tape.proofs.text.put_hex.Tie as tie
 
@@ -8,4 +8,4 @@ put_hex_spec =
     tie.close
     (tie.spec
     (λ c κs. search rules) (λ c. search rules) (λ c. search rules)
-    (λ c. put-digits _ _ 16 _ _ _ c.before.before.put-digits.ensures (search rules)))
+    (λ c. put_digits _ _ 16 _ _ _ c.before.before.put_digits.ensures (search rules)))

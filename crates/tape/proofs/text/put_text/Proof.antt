@@ -5,7 +5,7 @@ use native.Mathlib.Nat.{add-zero}
 use lib.ListN.{length, drop}
 use lib.Seq.{sets}
 use borrow.Author.Rules.{rules}
-use Rattle.tape.proofs.Writing.{text_turn, text-end}
+use Rattle.tape.proofs.Writing.{text_turn, text_end}
 use Rattle.tape.proofs.text.put_text.Statement.{statement}
 use Rattle.tape.proofs.text.put_text.Tie as tie
 
@@ -29,4 +29,4 @@ put_text_spec =
     let s = c.before.before.before in
     (search rules, search rules, text_turn l.out s.args.text.now s.args.at l.i (search rules) ∙ l.invariant.2))
     (λ c. search rules) (λ c. search rules)
-    (λ c. text-end _ _ _ _ _ (omega arith) c.before.loop.invariant.2 (omega arith)))
+    (λ c. text_end _ _ _ _ _ (omega arith) c.before.loop.invariant.2 (omega arith)))
