@@ -1,4 +1,6 @@
 // The card on a lent table of words: set-up, media events, ticks and commands.
+#![tactic(auto)]
+
 pub mod commanded;
 pub mod media;
 pub mod set_up;

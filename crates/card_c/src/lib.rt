@@ -1,4 +1,6 @@
 // The card for C: functions on numbers and byte slices, each slice a pointer and a length. include/card.h describes them.
+#![tactic(auto)]
+
 mod commanded;
 mod media;
 mod reply;

@@ -1,0 +1,34 @@
+use native.Mathlib.Omega.{arith}
+use borrow.Author.Rules.{rules}
+use Rattle.by_value.proofs.WholeCard.{listing_start, listing_row, listing_room, listing_less, listing_on, listing_end}
+use Rattle.region.specs.Region.{table_in}
+use Rattle.region.proofs.Words.{length_in}
+use Rattle.card_c.proofs.views.list_all.Goals as goal
+
+pub loop-left-init : goal.loop-left-init
+loop-left-init c = listing_start (table_in c.args.region.now) c.requires.0 c.args.word c.requires.1 c.args.page.now c.requires.2
+
+pub put_next-requires : goal.put_next-requires
+put_next-requires c =
+    let l = c.loop-left in
+    (omega (arith, listing_row (table_in c.args.region.now) c.requires.0 c.args.word c.requires.1 c.args.page.now l.page l.left l.to c.loop-left-test.true l.invariant, length_in c.args.region.now), listing_room (table_in c.args.region.now) c.requires.0 c.args.word c.requires.1 c.args.page.now l.page l.left l.to c.loop-left-test.true l.invariant)
+
+pub overflow_add-to : goal.overflow_add-to
+overflow_add-to c =
+    let l = c.loop-left in
+    omega (arith, listing_room (table_in c.args.region.now) c.requires.0 c.args.word c.requires.1 c.args.page.now l.page l.left l.to c.loop-left-test.true l.invariant)
+
+pub loop-left-smaller : goal.loop-left-smaller
+loop-left-smaller c =
+    let l = c.loop-left in
+    listing_less (table_in c.args.region.now) c.requires.0 c.args.word c.requires.1 c.args.page.now l.page l.left l.to c.loop-left-test.true l.invariant _ c.clear_lowest-left.ensures
+
+pub loop-left-preserved : goal.loop-left-preserved
+loop-left-preserved c =
+    let l = c.loop-left in
+    listing_on (table_in c.args.region.now) c.requires.0 c.args.word c.requires.1 c.args.page.now l.page l.left l.to c.loop-left-test.true l.invariant _ _ c.clear_lowest-left.ensures c.put_next.ensures
+
+pub returns : goal.returns
+returns c =
+    let l = c.loop-left in
+    listing_end (table_in c.args.region.now) c.requires.0 c.args.word c.requires.1 c.args.page.now l.page l.left l.to (search rules) l.invariant

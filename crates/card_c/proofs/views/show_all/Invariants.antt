@@ -1,0 +1,13 @@
+use mathlib.Core.Path.{◌≡◌}
+use Prim.Native.Nat.{◌-◌, ◌≤◌}
+use lib.ListN.{length}
+use Rattle.table.specs.Table.{count}
+use Rattle.by_value.proofs.WholeCard.{Going}
+use Rattle.region.specs.Region.{table_in}
+use Rattle.card_c.proofs.views.show_all.Given as goal
+
+abbrev pub invariant-loop-i : goal.invariant-loop-i
+invariant-loop-i l = (l.i ≤ l.n) × (length l.page ≡ length l.initial.page) × ((e : l.n ≡ count (table_in l.region)) → Going l.initial.page (table_in l.region) l.«from».0 l.n e l.page l.to l.i)
+
+abbrev pub decreases-loop-i : goal.decreases-loop-i
+decreases-loop-i l = l.n - l.i
