@@ -95,7 +95,7 @@ module _ (r : List ℕ) (dword len : ℕ) (n : Notice) where
   long : (n : Notice) → notice_at ≤ length r → part n ≡ front ++ padded (numbers dword len n) notice_at more
   long n h =
       let e : min (length r) reply_size ≡ suc (suc (suc (suc (suc (suc (suc (suc more))))))) = omega arith in
-      rw (e, page_is dword len n)
+      rw e (ap (λ (page : List ℕ). padded page 0 (suc (suc (suc (suc (suc (suc (suc (suc more))))))))) (page_is dword len n))
 
   zeros : padded (numbers dword len Unsent) notice_at more ≡ replicate more 0
   zeros =
