@@ -1,4 +1,3 @@
-pub mod Values
 pub mod Filled
 pub mod OfList
 pub mod OfRecord

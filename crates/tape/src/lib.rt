@@ -1,4 +1,6 @@
 // A replay file's items, played on a table, and the lines of its printout.
+#![tactic(auto)]
+
 pub mod items;
 pub mod lines;
 pub mod pieces;
