@@ -1,4 +1,5 @@
-// The card for C: functions on numbers and byte slices, each slice a pointer and a length. include/card.h describes them.
+// The card for C: functions on numbers and byte slices. `card_c_c` exports them, each slice a pointer and a length, and include/card.h
+// describes them.
 #![tactic(auto)]
 
 mod commanded;
@@ -16,15 +17,13 @@ use crate::reply::put_reply;
 use crate::set_up::set_up;
 use rules::Media;
 
-#[unsafe(no_mangle)]
-pub extern "C" fn card_set_up(table: &mut [u8], bodies: &[u8]) -> u16
+pub fn card_set_up(table: &mut [u8], bodies: &[u8]) -> u16
     ensures { SetUpAtC bodies.now table.old table.new result }
 {
     set_up(table, bodies)
 }
 
-#[unsafe(no_mangle)]
-pub extern "C" fn card_command(
+pub fn card_command(
     table: &mut [u8],
     command: &[u8],
     given: &[u8],
@@ -39,8 +38,7 @@ pub extern "C" fn card_command(
     r.status
 }
 
-#[unsafe(no_mangle)]
-pub extern "C" fn card_reads(table: &mut [u8], set: u16, count: u16, reply: &mut [u8]) -> u16
+pub fn card_reads(table: &mut [u8], set: u16, count: u16, reply: &mut [u8]) -> u16
     ensures { AnsweredAtC table.old (Item.reads set count) [] reply.old result table.new [] reply.new }
 {
     let r = event(table, set, Media::Reads(count));
@@ -49,8 +47,7 @@ pub extern "C" fn card_reads(table: &mut [u8], set: u16, count: u16, reply: &mut
     r.status
 }
 
-#[unsafe(no_mangle)]
-pub extern "C" fn card_writes(table: &mut [u8], set: u16, count: u16, reply: &mut [u8]) -> u16
+pub fn card_writes(table: &mut [u8], set: u16, count: u16, reply: &mut [u8]) -> u16
     ensures { AnsweredAtC table.old (Item.writes set count) [] reply.old result table.new [] reply.new }
 {
     let r = event(table, set, Media::Writes(count));
@@ -59,8 +56,7 @@ pub extern "C" fn card_writes(table: &mut [u8], set: u16, count: u16, reply: &mu
     r.status
 }
 
-#[unsafe(no_mangle)]
-pub extern "C" fn card_excursion(table: &mut [u8], set: u16, reply: &mut [u8]) -> u16
+pub fn card_excursion(table: &mut [u8], set: u16, reply: &mut [u8]) -> u16
     ensures { AnsweredAtC table.old (Item.excursion set) [] reply.old result table.new [] reply.new }
 {
     let r = event(table, set, Media::Excursion);
@@ -69,8 +65,7 @@ pub extern "C" fn card_excursion(table: &mut [u8], set: u16, reply: &mut [u8]) -
     r.status
 }
 
-#[unsafe(no_mangle)]
-pub extern "C" fn card_tick(
+pub fn card_tick(
     table: &mut [u8],
     milliseconds: u32,
     answer: &mut [u8],

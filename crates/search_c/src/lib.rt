@@ -1,5 +1,7 @@
 // The search for a set by itself, on words and on bytes, for C: so that a benchmark can time it (rust/search.rs). These are no
 // functions of the card. Unlike those they do not test whether the table is legal, which takes far longer than the search.
+#![tactic(auto)]
+
 ghost use Rattle.std.specs.Prelude.{◌≡◌};
 ghost use Rattle.table.specs.Table.{Legal, find_in};
 ghost use Rattle.region.specs.Region.{table_in};

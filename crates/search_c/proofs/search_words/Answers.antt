@@ -1,0 +1,4 @@
+use Rattle.search_c.proofs.search_words.Goals as goal
+
+pub returns : goal.returns
+returns c = simp (c.slot_in.ensures, c.find.ensures)
