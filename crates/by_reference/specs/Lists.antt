@@ -11,7 +11,7 @@ abbrev pub bodies_of : List Attributes → List ℕ
 bodies_of [] = []
 bodies_of (a ∷ list) = body a ++ bodies_of list
 
--- ---- Two laws, each proved under its name, in lower case and with dashes, in proofs/OfList.antt.
+-- ---- Two laws, each proved under its name, in snake case, in proofs/OfList.antt.
 
 -- "Set-up takes a lent list of attribute records": the sets that it makes have the list's own attributes, and nothing is lost in a
 -- body, for numbers that fit their fields, as those of the types u16, u32 and u64 do.

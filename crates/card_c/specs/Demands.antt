@@ -1,6 +1,6 @@
 -- Demand 1, of what C lends: "A refused call gives dword 0 as zero and no data, and changes no byte of the table or of the
--- answer buffer." A call is refused where its number is none of an item that was carried out. Each is proved under its name, in lower
--- case and with dashes, in proofs/Refusals.antt.
+-- answer buffer." A call is refused where its number is none of an item that was carried out. Each is proved under its name, in snake
+-- case, in proofs/Refusals.antt.
 use Rattle.std.specs.Prelude.{◌≡◌, false, List, ℕ, length}
 use Rattle.std.proofs.lemmas.List.Edits.{sets}
 use Rattle.octets.specs.Octets.{AllBytes}

@@ -3,7 +3,7 @@
 -- crates/steps/specs/Holders.antt says what is demanded of any holder of a card, and here is this one.
 -- A history is any list of calls, each lent the region that the one before has left, of which each function's promise holds
 -- (`AnsweredAtC`, what a card_ function ensures). Beside it nothing is supposed but that bytes are bytes, as their type says.
--- Proved under its name, in lower case and with dashes, in proofs/HeldByC.antt.
+-- Proved under its name, in snake case, in proofs/HeldByC.antt.
 use Rattle.std.specs.Prelude.{◌≡◌, true, List, ℕ, ◌-◌, min, leb, length, replicate}
 use Rattle.std.proofs.lemmas.List.Edits.{sets}
 use Rattle.octets.specs.Octets.{number_of, part, AllBytes}

@@ -25,7 +25,7 @@ listed_by word [] = []
 listed_by word (id ∷ ids) = listed_if (eqb (word % 2) 1) id (listed_by (word / 2) ids)
 
 -- ---- "The listed marks of all sets are gathered as one word of bits; the count is its ones and the next entry its lowest one."
--- Each is proved under its name, in lower case and with dashes, in proofs/Listed.antt.
+-- Each is proved under its name, in snake case, in proofs/Listed.antt.
 
 -- the word of the marks lists the sets whose mark is set
 abbrev pub OneWord : Type 0

@@ -68,7 +68,7 @@ stays c v = same_window (moved_by v c) v && not (restarts c)
 unfoldable pub going : Cause → Attributes → State → State
 going c a s = if stays c s.window then s else into (moved_by s.window c) c a s
 
--- ---- Laws of the door, proved under their names, in lower case and with dashes, in proofs/Leads.antt.
+-- ---- Laws of the door, proved under their names, in snake case, in proofs/Leads.antt.
 
 -- each cause leads to the window that the table names
 abbrev pub Leads : Type 0

@@ -12,7 +12,7 @@ up_by x y = (x + (y - 1)) / y
 unfoldable pub need_after : Attributes → ℕ → ℕ
 need_after a s = a.minimum_low + up_by ((a.minimum_high - a.minimum_low) * s) a.time_maximum
 
--- ---- Laws, of every legal set, proved under their names, in lower case and with dashes, in proofs/Needs.antt.
+-- ---- Laws, of every legal set, proved under their names, in snake case, in proofs/Needs.antt.
 
 -- the need lies between low and high, for every s up to maximum
 abbrev pub NeedWithin : Type 0

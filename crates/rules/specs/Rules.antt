@@ -122,7 +122,7 @@ tick t a s = by_window s.window (still s) (charge Time t a s) (still (recovering
 abbrev pub clearing_read : State → Effect
 clearing_read s = effect_of s no_events true
 
--- ---- Laws, each proved under its name, in lower case and with dashes: those on warnings in proofs/Warnings.antt, the last three
+-- ---- Laws, each proved under its name, in snake case: those on warnings in proofs/Warnings.antt, the last three
 -- in proofs/Leads.antt.
 
 -- "threshold 0 never warns": no estimate is below it

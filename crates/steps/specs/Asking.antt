@@ -1,6 +1,6 @@
 -- 02, "Sixty-four sessions": "An Identify answer still holds 31 entries, so the host asks again from the last identifier plus one; show
 -- that asking so until a count below 31, or a last identifier of 65,535, gives each set once." Of the step, over any list of items;
--- crates/pages/specs/Asking.antt has what a host reads and gathers. Each is proved under its name, in lower case and with dashes, in
+-- crates/pages/specs/Asking.antt has what a host reads and gathers. Each is proved under its name, in snake case, in
 -- proofs/Asking.antt. The same of calls, one after another, is `GivesEachBack` of Holders.antt.
 use Rattle.std.specs.Prelude.{◌≡◌, Bool, true, ◌&&◌, List, [], ◌∷◌, ◌++◌, ℕ, zero, suc, ◌≤◌, eqb, length}
 use Rattle.octets.specs.Choice.{if◌then◌else◌}

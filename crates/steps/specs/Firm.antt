@@ -1,5 +1,5 @@
 -- 01, "How firm each public statement is": "Any two outcomes allowed by one statement are shown to coincide".
--- Each is proved under its name, in lower case and with dashes, in proofs/FirmPromises.antt.
+-- Each is proved under its name, in snake case, in proofs/FirmPromises.antt.
 use Rattle.std.specs.Prelude.{◌≡◌, List, ℕ}
 use Rattle.replies.specs.declared.Reply.{Reply}
 use Rattle.steps.specs.Items.{Item}

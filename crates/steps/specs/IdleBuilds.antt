@@ -1,5 +1,5 @@
 -- 01: "Five idle builds are shut out." Each is refuted of the step itself, so that an idle definition fails too.
--- Each is proved under its name, in lower case and with dashes, in proofs/IdleRefuted.antt.
+-- Each is proved under its name, in snake case, in proofs/IdleRefuted.antt.
 use Rattle.std.specs.Prelude.{◌≡◌, true, List, ◌∷◌, map, ℕ, ◌≤◌, ◌<◌, length, get_or}
 use Rattle.std.specs.Int.Count.{ones}
 use Rattle.octets.specs.Octets.{number_of, part}

@@ -1,6 +1,6 @@
 -- 02, "Wake the host": what is promised of notices, over any list of items. Told by items, answers, notices and the card before and
 -- after: by nothing that the step reckons on its way.
--- Each is proved under its name, in lower case and with dashes, in proofs/Notices.antt; the two that are refuted, and the table of
+-- Each is proved under its name, in snake case, in proofs/Notices.antt; the two that are refuted, and the table of
 -- cases, in proofs/NoticeCases.antt. The same of calls, one after another, is in Holders.antt.
 use Rattle.std.specs.Prelude.{◌≡◌, Bool, true, false, not, ◌&&◌, ◌||◌, List, [], ◌∷◌, ◌++◌, ◌⊎◌, ℕ, ◌≤◌, eqb, length}
 use Rattle.octets.specs.Choice.{if◌then◌else◌}

@@ -1,5 +1,5 @@
 -- 01, of the table's words: "words past it are neither read nor written".
--- Each is proved under its name, in lower case and with dashes, in proofs/PastWords.antt.
+-- Each is proved under its name, in snake case, in proofs/PastWords.antt.
 use Rattle.std.specs.Prelude.{◌≡◌, List, ◌++◌, ℕ, ◌≤◌, length, drop}
 use Rattle.table.specs.Table.{count, row_start, max_sets}
 use Rattle.steps.specs.Items.{Item}

@@ -1,5 +1,5 @@
 -- 01, "How firm each public statement is": "Any two outcomes allowed by one statement are shown to coincide".
--- Each is proved under its name, in lower case and with dashes, in proofs/Firm.antt.
+-- Each is proved under its name, in snake case, in proofs/Firm.antt.
 use Rattle.std.specs.Prelude.{◌≡◌, Bool, List, ℕ}
 use Rattle.std.proofs.Math.Option.{Option}
 use Rattle.steps.specs.Items.{Item}
