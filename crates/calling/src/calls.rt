@@ -4,6 +4,7 @@ use card::media::{excursion, reads, ticks, writes};
 use card::set_up::set_up;
 use record::SetId;
 use replies::{Reply, to_no, told_no};
+use std::io::Write;
 use streams::{HEAD, count_in, give, give_reply, give_status, give_words, number, set_in, time_in};
 
 fn reply_of(
@@ -28,7 +29,8 @@ fn reply_of(
     }
 }
 
-fn answer_whole(
+fn answer_whole<W: Write>(
+    to: &mut W,
     head: &[u8; HEAD],
     kind: u64,
     table: &mut [u64],
@@ -38,14 +40,20 @@ fn answer_whole(
 ) {
     let r = reply_of(head, kind, table, bytes, given, answer);
     let notice = r.notice;
-    give_reply(r.status, r.dword, r.len, told_no(notice), to_no(notice));
+    give_reply(to, r.status, r.dword, r.len, told_no(notice), to_no(notice));
 }
 
-fn answer_part(table: &mut [u64], bytes: &[u8], given: &[u8], answer: &mut [u8]) {
+fn answer_part<W: Write>(
+    to: &mut W,
+    table: &mut [u64],
+    bytes: &[u8],
+    given: &[u8],
+    answer: &mut [u8],
+) {
     let mut status = 0;
     let mut dword = 0;
     let mut told = 0;
-    let mut to = 0;
+    let mut completes = 0;
     let written = command_part(
         table,
         bytes,
@@ -54,24 +62,32 @@ fn answer_part(table: &mut [u64], bytes: &[u8], given: &[u8], answer: &mut [u8])
         &mut status,
         &mut dword,
         &mut told,
-        &mut to,
+        &mut completes,
     );
-    give_reply(status, dword, written.len(), told, to);
-    give(written);
+    give_reply(to, status, dword, written.len(), told, completes);
+    give(to, written);
 }
 
-fn answer_by(head: &[u8; HEAD], table: &mut [u64], bytes: &[u8], given: &[u8], answer: &mut [u8]) {
+fn answer_by<W: Write>(
+    to: &mut W,
+    head: &[u8; HEAD],
+    table: &mut [u64],
+    bytes: &[u8],
+    given: &[u8],
+    answer: &mut [u8],
+) {
     let kind = number(head, 0, 1);
     if kind == 7 {
-        give_status(set_up(table, given));
+        give_status(to, set_up(table, given));
     } else if kind == 8 {
-        answer_part(table, bytes, given, answer);
+        answer_part(to, table, bytes, given, answer);
     } else {
-        answer_whole(head, kind, table, bytes, given, answer);
+        answer_whole(to, head, kind, table, bytes, given, answer);
     }
 }
 
-pub fn carry_out(
+pub fn carry_out<W: Write>(
+    to: &mut W,
     head: &[u8; HEAD],
     table: &mut [u64],
     bytes: &[u8],
@@ -79,7 +95,7 @@ pub fn carry_out(
     answer: &mut [u8],
     buf: &mut [u8],
 ) {
-    answer_by(head, table, bytes, given, answer);
-    give_words(table, buf);
-    give(answer);
+    answer_by(to, head, table, bytes, given, answer);
+    give_words(to, table, buf);
+    give(to, answer);
 }

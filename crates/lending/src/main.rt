@@ -2,10 +2,14 @@
 // how): set-up from a lent list of three sets or of 64, whose bodies are the data; and reads, writes and excursions of one lent
 // record, whose row is the table. It has no case of its own: rust/ makes the calls, and holds what is written to the model. Set-up
 // from another number of bodies is answered with FFFFh.
+#![tactic(auto)]
+
 use by_reference::callers::{charge_lent, set_up_full, set_up_three};
 use pages::bodies::{BODY, attributes_in};
 use record::Attributes;
 use rules::Media;
+use std::io;
+use std::io::{Read, Write};
 use streams::{
     HEAD, count_in, give_status, give_words, number, part, sizes_in, take, take_words, words_part,
 };
@@ -61,10 +65,8 @@ fn attributes_at(bodies: &[u8], i: usize) -> Attributes {
 
 fn list_in(bodies: &[u8]) -> [Attributes; MAX_SETS] {
     let mut list = [attributes_at(bodies, 0); MAX_SETS];
-    let mut i = 0;
-    while i < MAX_SETS {
+    for i in 0..MAX_SETS {
         list[i] = attributes_at(bodies, i);
-        i += 1;
     }
     list
 }
@@ -92,35 +94,52 @@ fn status_of(head: &[u8; HEAD], table: &mut [u64], bodies: &[u8]) -> u16 {
     }
 }
 
-fn carry_out(head: &[u8; HEAD], table: &mut [u64], bodies: &[u8], buf: &mut [u8]) {
-    give_status(status_of(head, table, bodies));
-    give_words(table, buf);
+fn carry_out<W: Write>(
+    to: &mut W,
+    head: &[u8; HEAD],
+    table: &mut [u64],
+    bodies: &[u8],
+    buf: &mut [u8],
+) {
+    give_status(to, status_of(head, table, bodies));
+    give_words(to, table, buf);
 }
 
 // One call; whether there may be another.
-fn one_call(words: &mut [u64], data: &mut [u8], buf: &mut [u8]) -> bool {
+fn one_call<R: Read, W: Write>(
+    from: &mut R,
+    to: &mut W,
+    words: &mut [u64],
+    data: &mut [u8],
+    buf: &mut [u8],
+) -> bool {
     let mut head = [0u8; HEAD];
-    let begun = take(&mut head, HEAD);
+    let begun = take(from, &mut head, HEAD);
     let n = sizes_in(&head);
-    let a = take_words(words, n.table, buf);
-    let b = take(data, n.data);
+    let a = take_words(from, words, n.table, buf);
+    let b = take(from, data, n.data);
     if begun & a & b {
-        carry_out(&head, words_part(words, n.table), part(data, n.data), buf);
+        carry_out(
+            to,
+            &head,
+            words_part(words, n.table),
+            part(data, n.data),
+            buf,
+        );
         return true;
     }
     false
 }
 
-// A proved loop has to end, and nothing says that the input does: so it counts its turns down from a number that no run uses up.
-fn main() {
+// A proved loop has to end, and nothing says that the input does: so it takes no more turns than a number that no run uses up.
+fn main(rt: HostRuntime) {
+    let mut from = rt.reader();
+    let mut to = io::writer(&rt);
     let mut words = [0u64; WORDS];
     let mut data = [0u8; DATA];
     let mut buf = [0u8; BYTES];
-    let mut turns = u64::MAX;
-    while 0 < turns {
-        if one_call(&mut words, &mut data, &mut buf) {
-            turns -= 1;
-        } else {
+    for _ in 0..u64::MAX {
+        if !one_call(&mut from, &mut to, &mut words, &mut data, &mut buf) {
             return;
         }
     }

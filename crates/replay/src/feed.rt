@@ -1,6 +1,9 @@
 // The input, through a buffer of fixed size: what is read and not used yet lies at its front.
-ghost use Rattle.std.specs.Prelude.{◌≡◌, ◌-◌, ◌≤◌, length, take, drop};
+ghost use Rattle.std.specs.Prelude.{◌≡◌, false, true, ◌-◌, ◌≤◌, length, take, drop};
+ghost use Rattle.std.specs.Io.KnownBytes.{Consumes, IsAtEnd};
 ghost use Rattle.std.proofs.lemmas.List.Edits.{sets};
+
+use std::io::Read;
 
 #[derive(Clone, Copy)]
 pub struct Feed {
@@ -13,35 +16,42 @@ pub struct Feed {
 }
 
 fn made(have: usize, last: bool, failed: bool) -> Feed
-    ensures { result.have ≡ have }
+    ensures have { result.have ≡ have }
+    ensures last { result.last ≡ last }
+    ensures failed { result.failed ≡ failed }
 {
     Feed { have, last, failed }
 }
 
 // Before the first read.
 pub fn nothing() -> Feed
-    ensures { result.have ≡ 0 }
+    ensures have { result.have ≡ 0 }
+    ensures last { result.last ≡ false }
+    ensures failed { result.failed ≡ false }
 {
     made(0, false, false)
 }
 
 // One read after the bytes that are there, which stay, if there is room and the input has more. A read that fails is said on standard
-// error.
-pub fn fill(fd: i32, buf: &mut [u8], f: Feed) -> Feed
+// error. What is added is what was next in the input, and the input has no more only where it is at its end or a read failed.
+pub fn fill<R: Read>(rt: &impl Eprint, from: &mut R, buf: &mut [u8], f: Feed) -> Feed
     requires { f.have ≤ length buf.old }
-    ensures { (f.have ≤ result.have) × (result.have ≤ length buf.new) × (take f.have buf.new ≡ take f.have buf.old) }
+    ensures kept { (f.have ≤ result.have) × (result.have ≤ length buf.new) × (take f.have buf.new ≡ take f.have buf.old) }
+    ensures added { Consumes (R.remaining from.old) (R.remaining from.new) (drop f.have (take result.have buf.new)) }
+    ensures end { f.last ≡ false → result.last ≡ true → result.failed ≡ false → IsAtEnd (R.remaining from.new) }
 {
     let have = f.have;
     let last = f.last;
     if last | (buf.len() <= have) {
         return f;
     }
-    let got = libc::read(fd, &mut buf[have..]);
-    if got < 0 {
-        os::fail(b"read");
+    match from.read(&mut buf[have..]) {
+        Ok(n) => made(have + n, n == 0, false),
+        Err(error) => {
+            let _ = eprintln!(rt; "read: {error}");
+            made(have, true, true)
+        }
     }
-    let n = io::count(got, &buf[have..]);
-    made(have + n, n == 0, got < 0)
 }
 
 // The bytes from a place to their end, moved to the front; how many there are.

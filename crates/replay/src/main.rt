@@ -1,10 +1,15 @@
 // Reads a replay file, the one that its argument names or standard input, and prints what the card answers. Here bytes are moved and no
 // more: what is printed is `tape::pieces::play_on`'s, whatever the pieces are in which the file is read.
+#![tactic(auto)]
+
 mod feed;
 mod output;
 
 use crate::feed::{fill, nothing, to_front};
-use libc::STDIN_FILENO;
+use std::env::FillError;
+use std::io::Read;
+use std::rt::{Env, Files};
+use std::{fs, io, str};
 use table::MAX_SETS;
 use table::layout::{HEADER, ROW};
 use tape::Stage;
@@ -16,22 +21,53 @@ const WORDS: usize = HEADER + MAX_SETS * ROW;
 // Of what is read and of what is written. More than the longest item and the longest line have, so that each call moves on.
 const SIZE: usize = 65536;
 
-// The descriptor to read from, or -1 where the file cannot be opened, which is said on standard error.
-fn input() -> i32 {
-    if os::arg_count() < 2 {
-        return STDIN_FILENO;
+// No longer name can be opened.
+const NAME: usize = 4096;
+
+// What is read.
+#[derive(Drop)]
+enum Source<F, I> {
+    Named(F),
+    Standard(I),
+}
+
+impl<F: Read, I: Read> Read for Source<F, I> {
+    fn read(&mut self, buf: &mut [u8]) -> io::Result<usize> {
+        match self {
+            Source::Named(file) => file.read(buf),
+            Source::Standard(input) => input.read(buf),
+        }
     }
-    let mut path = io::buffer();
-    let n = os::arg(1, &mut path);
-    if os::errno() != 0 {
-        os::fail(b"file name");
-        return -1;
+}
+
+// What to read from, or nothing where the file cannot be opened, which is said on standard error.
+fn input<R: Env + Files + Input + Eprint>(rt: &R) -> Option<Source<R::File, R::Reader>> {
+    let mut path = [0u8; NAME];
+    match rt.arg(1, &mut path) {
+        Ok(n) => named(rt, &path[..n]),
+        Err(FillError::NotPresent) => Some(Source::Standard(rt.reader())),
+        Err(FillError::TooLong) => {
+            let _ = eprintln!(rt; "file name: too long");
+            None
+        }
     }
-    let fd = os::open_read(&path[..n]);
-    if fd < 0 {
-        os::fail(&path[..n]);
+}
+
+fn named<R: Env + Files + Input + Eprint>(
+    rt: &R,
+    path: &[u8],
+) -> Option<Source<R::File, R::Reader>> {
+    let Ok(path) = str::from_utf8(path) else {
+        let _ = eprintln!(rt; "file name: not UTF-8");
+        return None;
+    };
+    match fs::open(rt, path) {
+        Ok(file) => Some(Source::Named(file)),
+        Err(error) => {
+            let _ = eprintln!(rt; "{path}: {error}");
+            None
+        }
     }
-    fd
 }
 
 fn has_ended(s: Stage) -> bool {
@@ -42,17 +78,16 @@ fn has_ended(s: Stage) -> bool {
     }
 }
 
-// A proved loop has to end, and nothing says that a file does: so it counts its turns down from a number that no run uses up.
-fn replay(fd: i32) {
+// A proved loop has to end, and nothing says that a file does: so it takes no more turns than a number that no run uses up.
+fn replay(rt: &(impl Print + Eprint), from: &mut impl Read) {
     let mut buf = [0u8; SIZE];
     let mut out = [0u8; SIZE];
     let mut bodies = [0u8; BODIES];
     let mut table = [0u64; WORDS];
     let mut p = at_start();
     let mut f = nothing();
-    let mut turns = u64::MAX;
-    while 0 < turns {
-        f = fill(fd, &mut buf, f);
+    for _ in 0..u64::MAX {
+        f = fill(rt, from, &mut buf, f);
         let failed = f.failed;
         if failed {
             return;
@@ -60,20 +95,17 @@ fn replay(fd: i32) {
         let have = f.have;
         let last = f.last;
         p = play_on(&mut table, &mut bodies, &mut out, &buf[0..have], last, p);
-        output::write(&out, p.len);
+        output::write(rt, &out, p.len);
         let stage = p.stage;
         if has_ended(stage) {
             return;
         }
         f.have = to_front(&mut buf, p.used, have);
-        turns -= 1;
     }
 }
 
-fn main() {
-    let fd = input();
-    if 0 <= fd {
-        replay(fd);
-        libc::close(fd);
+fn main(rt: HostRuntime) {
+    if let Some(mut from) = input(&rt) {
+        replay(&rt, &mut from);
     }
 }

@@ -1,15 +1,11 @@
 // Standard output.
 ghost use Rattle.std.specs.Prelude.{◌≤◌, length};
 
-use libc::STDOUT_FILENO;
-
 // The first n bytes. A write that fails is said on standard error.
-pub fn write(out: &[u8], n: usize)
+pub fn write(rt: &(impl Print + Eprint), out: &[u8], n: usize)
     requires { n ≤ length out.now }
 {
-    let written = io::write_all(STDOUT_FILENO, &out[0..n]);
-    if written {
-        return;
+    if let Err(error) = rt.write_all(&out[0..n]) {
+        let _ = eprintln!(rt; "write: {error}");
     }
-    os::fail(b"write");
 }

@@ -1,5 +1,5 @@
-// Calls read from standard input, and what they answered and left written to standard output: for the programs that the trials
-// drive. Whatever is read, no function here requires anything, so that no program owes a proof.
+// Calls read from an input, and what they answered and left written to an output: for the programs that the trials drive. Whatever
+// is read, no function here requires anything, so that no program owes a proof.
 //
 // A call is a head of 16 bytes, then the table's words, the answer buffer, the command and the data in. Head: 0 kind; 3:2 set;
 // 7:4 count or milliseconds; 9:8 words of the table; 11:10, 13:12, 15:14 bytes of the answer buffer, of the command and of the
@@ -8,8 +8,14 @@
 // What is written: 1:0 status, 3:2 whether a notice goes beside it (1 or 0), 7:4 dword 0, 11:8 length of the data, 13:12 the
 // identifier of the request that the notice completes; for 08h the part itself; then every word of the table and every byte of the
 // answer buffer. All numbers are little-endian.
-use libc::{STDIN_FILENO, STDOUT_FILENO};
+#![tactic(auto)]
+
+ghost use Rattle.std.specs.Prelude.{◌≡◌, true, ◌*◌, ◌≤◌, length, take};
+ghost use Rattle.std.specs.Io.KnownBytes.{Appends, Consumes};
+ghost use Rattle.octets.specs.Words.{word_size, put_words};
+
 use octets::words::{words_in, words_out};
+use std::io::{Read, Write};
 
 pub const HEAD: usize = 16;
 
@@ -81,9 +87,11 @@ pub fn words_part<'a>(words: &'a mut [u64], n: usize) -> &'a mut [u64] {
 }
 
 // Reads n bytes to the start of a buffer; whether all came.
-pub fn take(buf: &mut [u8], n: usize) -> bool {
+pub fn take<R: Read>(from: &mut R, buf: &mut [u8], n: usize) -> bool
+    ensures { result ≡ true → (n ≤ length buf.new) × Consumes (R.remaining from.old) (R.remaining from.new) (take n buf.new) }
+{
     if n <= buf.len() {
-        return io::read_full(STDIN_FILENO, &mut buf[0..n]) == n;
+        return from.read_exact(&mut buf[0..n]).is_ok();
     }
     false
 }
@@ -101,10 +109,10 @@ fn to_bytes(words: &[u64], bytes: &mut [u8]) {
 }
 
 // The same of words; their bytes pass through a buffer.
-pub fn take_words(words: &mut [u64], n: usize, buf: &mut [u8]) -> bool {
+pub fn take_words<R: Read>(from: &mut R, words: &mut [u64], n: usize, buf: &mut [u8]) -> bool {
     if n <= words.len() {
         if n <= buf.len() / 8 {
-            let came = take(buf, 8 * n);
+            let came = take(from, buf, 8 * n);
             from_bytes(buf, &mut words[0..n]);
             return came;
         }
@@ -112,29 +120,41 @@ pub fn take_words(words: &mut [u64], n: usize, buf: &mut [u8]) -> bool {
     false
 }
 
-pub fn give(bytes: &[u8]) {
-    io::write_all(STDOUT_FILENO, bytes);
+// Writes bytes; whether all went.
+pub fn give<W: Write>(to: &mut W, bytes: &[u8]) -> bool
+    ensures { result ≡ true → Appends (W.contents to.old) (W.contents to.new) bytes.now }
+{
+    to.write_all(bytes).is_ok()
 }
 
-pub fn give_words(words: &[u64], buf: &mut [u8]) {
+// The same of words.
+pub fn give_words<W: Write>(to: &mut W, words: &[u64], buf: &mut [u8]) -> bool {
     let n = words.len();
     if n <= buf.len() / 8 {
         to_bytes(words, buf);
-        give(part(buf, 8 * n));
+        return give(to, part(buf, 8 * n));
     }
+    false
 }
 
-pub fn give_reply(status: u16, dword: u32, len: usize, told: u16, to: u16) {
+pub fn give_reply<W: Write>(
+    to: &mut W,
+    status: u16,
+    dword: u32,
+    len: usize,
+    told: u16,
+    completes: u16,
+) -> bool {
     let mut reply = [0u8; REPLY];
     octets::put(&mut reply, 0, 2, status as u64);
     octets::put(&mut reply, 2, 2, told as u64);
     octets::put(&mut reply, 4, 4, dword as u64);
     octets::put(&mut reply, 8, 4, len as u64);
-    octets::put(&mut reply, 12, 2, to as u64);
-    give(&reply);
+    octets::put(&mut reply, 12, 2, completes as u64);
+    give(to, &reply)
 }
 
 // What has a status and nothing beside it.
-pub fn give_status(status: u16) {
-    give_reply(status, 0, 0, 0, 0);
+pub fn give_status<W: Write>(to: &mut W, status: u16) -> bool {
+    give_reply(to, status, 0, 0, 0, 0)
 }
