@@ -83,6 +83,7 @@ fn is_staying(c: Cause, v: Window, next: Window) -> bool
 }
 
 // The state after a cause, for a set in window v. Where a caller writes the window down the compiler reads the table's entry ahead.
+#[inline(always)]
 pub(crate) fn go_from(v: Window, c: Cause, a: Attributes, s: State) -> State
     requires { s.window ≡ v }
     ensures { result ≡ going c a s }
@@ -96,6 +97,7 @@ pub(crate) fn go_from(v: Window, c: Cause, a: Attributes, s: State) -> State
 }
 
 // The state after a cause.
+#[inline(always)]
 pub fn go(c: Cause, a: Attributes, s: State) -> State
     ensures { result ≡ going c a s }
 {

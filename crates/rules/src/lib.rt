@@ -104,6 +104,7 @@ fn on_entering(w: Window, a: Attributes, c: Config) -> Events
     }
 }
 
+#[inline(always)]
 pub fn go_to_selected(a: Attributes, s: State, c: Cause) -> Effect
     ensures { result ≡ selecting c a s }
 {
