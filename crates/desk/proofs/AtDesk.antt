@@ -7,7 +7,7 @@ use native.Mathlib.Omega.{arith}
 use borrow.Author.Tests.{leb-true, le-leb}
 use lib.Dec.{leb, ltb}
 use lib.ListN.{length, get_or, length-append}
-use Rattle.octets.specs.Choice.{if◌then◌else◌}
+use Rattle.std.specs.Prelude.{if◌then◌else◌}
 use Rattle.desk.specs.Desk.{Desk, desk_of, queued, turned, lifted, Told, send_by, settle, requests_maximum, identifier_maximum, all_identifiers}
 use Rattle.desk.specs.Words.{desk_words, desk_in, WordsOfDesk}
 use Rattle.desk.specs.AtWords.{queued_words, turned_words, lifted_words, sends, served, remembered, settled_words}

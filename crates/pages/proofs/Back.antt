@@ -9,7 +9,7 @@ use lib.Dec.{lit<}
 use lib.ListN.{length, get_or, take, drop, replicate, length-append, length-take, length-drop, length-replicate}
 use lib.Seq.{sets, length-sets, sets-eq, take-append-add, take-add, drop-drop}
 use borrow.Author.Tests.{leb-true}
-use Rattle.octets.specs.Choice.{if◌then◌else◌}
+use Rattle.std.specs.Prelude.{if◌then◌else◌}
 use Rattle.octets.specs.Octets.{bytes_of, number_of, part, AllBytes}
 use Rattle.octets.specs.declared.Place.{Place}
 use Rattle.octets.specs.Pages.{read_at, fields_at, puts, Fit, readings, values}

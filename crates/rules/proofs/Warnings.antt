@@ -4,7 +4,7 @@ use mathlib.Core.Bool.{Bool, true, false, and-false, and-true}
 use Prim.Native.Nat.{◌+◌, ◌-◌}
 use native.Mathlib.Omega.{arith}
 use borrow.Author.Tests.{le-ltb, lt-ltb, lt-leb}
-use Rattle.octets.specs.Choice.{if◌then◌else◌}
+use Rattle.std.specs.Prelude.{if◌then◌else◌}
 use Rattle.record.specs.declared.Quantity.{Quantity}
 use Rattle.record.specs.declared.Quantity.TheVariants.{Reads, Writes, Time}
 use Rattle.record.specs.declared.Effect.{Effect}

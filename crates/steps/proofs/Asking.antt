@@ -9,7 +9,7 @@ use native.Mathlib.Nat.{mod-eq_of_lt}
 use borrow.Author.Tests.{eqb-true, eq-eqb, le-ltb}
 use lib.Dec.{eqb}
 use lib.ListN.{length, length-map}
-use Rattle.octets.specs.Choice.{if◌then◌else◌}
+use Rattle.std.specs.Prelude.{if◌then◌else◌}
 use Rattle.octets.specs.Octets.{part, bytes_of, number_of}
 use Rattle.octets.proofs.JoinedTests.{both, together, and_left}
 use Rattle.octets.proofs.PutAndGet.{number_bytes}

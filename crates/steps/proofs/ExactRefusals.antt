@@ -10,7 +10,7 @@ use native.Mathlib.Nat.{zero-mul}
 use borrow.Author.Tests.{eqb-true, ne_eqb, le-ltb}
 use lib.Dec.{eqb}
 use lib.ListN.{length}
-use Rattle.octets.specs.Choice.{if◌then◌else◌}
+use Rattle.std.specs.Prelude.{if◌then◌else◌}
 use Rattle.octets.proofs.JoinedTests.{both, left_false}
 use Rattle.record.specs.declared.Record.{Record}
 use Rattle.replies.specs.Numbers.{success, invalid_field, unknown_set, too_early, too_short, bad_table}

@@ -5,7 +5,7 @@ use mathlib.Core.List.{List}
 use Prim.Native.Nat.{ℕ}
 use lib.Dec.{eqb}
 use lib.ListN.{length}
-use Rattle.octets.specs.Choice.{if◌then◌else◌}
+use Rattle.std.specs.Prelude.{if◌then◌else◌}
 use Rattle.rules.specs.declared.Media.{Media}
 use Rattle.rules.specs.declared.Media.TheVariants.{Reads, Writes, Excursion}
 use Rattle.rules.specs.Rules.{media_rule}

@@ -8,7 +8,7 @@ use borrow.Author.Tests.{eqb-true, eqb-false, not-false, leb-true, ltb-false, lt
 use lib.Dec.{eqb, leb}
 use lib.ListN.{length}
 use lib.Seq.{sets, length-sets}
-use Rattle.octets.specs.Choice.{if◌then◌else◌}
+use Rattle.std.specs.Prelude.{if◌then◌else◌}
 use Rattle.octets.proofs.JoinedTests.{both}
 use Rattle.octets.proofs.Runs.{take_through}
 use Rattle.record.specs.Legal.{in_range}

@@ -11,7 +11,7 @@ use borrow.Author.Tests.{le-leb, leb-true, ltb-true, ltb-false}
 use lib.Dec.{ltb, leb, eqb}
 use lib.ListN.{length, get_or, take, drop, length-append, length-drop, get_or-append}
 use lib.Seq.{sets, length-sets, drop-append-le, drop-drop, length-take-le}
-use Rattle.octets.specs.Choice.{if◌then◌else◌}
+use Rattle.std.specs.Prelude.{if◌then◌else◌}
 use Rattle.octets.specs.Lists.{join}
 use Rattle.octets.specs.Octets.{part}
 use Rattle.octets.proofs.Runs.{part_same, part_append, sets_join}

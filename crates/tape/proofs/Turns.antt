@@ -8,7 +8,7 @@ use borrow.Author.Tests.{lt-ltb, le-ltb, eq-eqb, ne_eqb, leb-true}
 use lib.Dec.{ltb, leb, eqb}
 use lib.ListN.{length, get_or, take, drop}
 use lib.Seq.{sets}
-use Rattle.octets.specs.Choice.{if◌then◌else◌}
+use Rattle.std.specs.Prelude.{if◌then◌else◌}
 use Rattle.pages.specs.Bodies.{body_size}
 use Rattle.replies.specs.Answers.{cut}
 use Rattle.steps.specs.SetUp.{bodies, with_body, first_bodies, set_up, SetUp}
