@@ -10,8 +10,8 @@ use borrow.Author.Tests.{ltb-true, ltb-false, leb-true, leb-false, lt-ltb, le-lt
 use borrow.Rule.Slice.PartMut.{put_mid}
 use lib.Dec.{ltb, leb}
 use lib.ListN.{length, get_or, take, drop, length-append, length-take, length-drop, take-append-drop}
-use lib.Seq.{sets, sets-eq, length-sets, length-take-le, take_all, take_at, take-suc, drop-drop}
-use Rattle.octets.specs.Choice.{if◌then◌else◌}
+use lib.Seq.{sets, sets-eq, length-sets, length-take-le, take_all, take-suc, drop-drop}
+use Rattle.std.specs.Prelude.{if◌then◌else◌}
 use Rattle.octets.specs.Octets.{padded}
 use Rattle.octets.proofs.Runs.{sets_append, padded_whole}
 use Rattle.record.specs.declared.Attributes.{Attributes}

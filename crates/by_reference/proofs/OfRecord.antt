@@ -1,7 +1,6 @@
 -- What the step makes of a record, by its rule; that it stays legal; and that the statement of a charge allows one outcome.
 use mathlib.Core.Path.{◌≡◌, refl, sym, subst, ◌∙◌}
 use mathlib.Core.Bool.{true}
-use Prim.Native.Nat.{ℕ}
 use Rattle.record.specs.declared.Record.{Record}
 use Rattle.record.specs.Parts.{id_of}
 use Rattle.record.specs.Event.{settled}

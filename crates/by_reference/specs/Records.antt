@@ -1,7 +1,6 @@
 -- 01: "The media layer charges one lent record in place; a thin layer over a by-value core." A record that is lent by itself has no desk
 -- beside it: that its set was listed is told by no notice and remembered by no flag.
-use Rattle.std.specs.Prelude.{◌≡◌, true, ℕ, eqb}
-use Rattle.octets.specs.Choice.{if◌then◌else◌}
+use Rattle.std.specs.Prelude.{◌≡◌, true, ℕ, eqb, if◌then◌else◌}
 use Rattle.replies.specs.Numbers.{bad_table}
 use Rattle.record.specs.declared.Record.{Record}
 use Rattle.record.specs.Parts.{id_of}

@@ -2,32 +2,27 @@
 use mathlib.Core.Path.{◌≡◌, refl, sym, ap, ◌∙◌}
 use mathlib.Core.Bool.{Bool, true, false, ◌&&◌, and-true}
 use mathlib.Core.List.{List, [], ◌∷◌, map}
-use Prim.Native.Nat.{ℕ, zero, suc, ◌+◌, ◌-◌, ◌*◌, ◌≤◌, ◌<◌}
+use Prim.Native.Nat.{ℕ, suc, ◌+◌, ◌-◌, ◌≤◌, ◌<◌}
 use native.Mathlib.Omega.{arith}
 use native.Mathlib.Nat.{sub-zero}
 use native.Mathlib.Numerals.{add-one}
-use borrow.Author.Tests.{eqb-true, eqb-false, ne_eqb, eq-eqb, not-false, leb-true, ltb-false}
-use lib.Dec.{eqb, leb, ltb}
+use borrow.Author.Tests.{ne_eqb, eq-eqb}
+use lib.Dec.{ltb}
 use lib.ListN.{length}
 use lib.Seq.{sets, length-sets}
-use Rattle.octets.specs.Choice.{if◌then◌else◌}
 use Rattle.octets.proofs.JoinedTests.{both}
 use Rattle.record.specs.declared.Attributes.{Attributes}
 use Rattle.record.specs.declared.Record.{Record}
-use Rattle.record.specs.Legal.{in_range, legal_attributes, legal_record}
-use Rattle.replies.proofs.Rows.{passed}
+use Rattle.record.specs.Legal.{legal_attributes, legal_record}
 use Rattle.desk.specs.Desk.{new_desk}
 use Rattle.desk.specs.Words.{desk_words}
 use Rattle.table.specs.Layout.{words_of}
-use Rattle.table.specs.Card.{Card, layout_number, header}
-use Rattle.table.specs.Table.{row_start, put, records_of, legal_sets, legal_table, written_from, written_rows, written, max_sets}
-use Rattle.table.proofs.Written.{Fitting, written_back, written_legal}
+use Rattle.table.specs.Card.{layout_number}
+use Rattle.table.specs.Table.{put, legal_sets, written_from, written_rows, written}
 use Rattle.pages.specs.Bodies.{body_size, attributes_in, kept_of}
 use Rattle.pages.proofs.Back.{kept_whole}
-use Rattle.replies.specs.Answers.{granted, refused}
-use Rattle.steps.specs.Words.{Result}
-use Rattle.steps.specs.SetUp.{new_record, attributes_from, bodies, new_sets, new_card, set_up_lines, set_up_status, new_table, set_up, SetUp}
-use Rattle.steps.proofs.NewSets.{new_length, new_header}
+use Rattle.steps.specs.SetUp.{new_record, attributes_from, bodies, new_sets, set_up_status, new_table, set_up, SetUp}
+use Rattle.steps.proofs.NewSets.{new_header}
 use Rattle.by_value.specs.SetUp.{follows_of, kept_record}
 
 module _ (bytes : List ℕ) (n i at : ℕ) where

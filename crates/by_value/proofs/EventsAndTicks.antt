@@ -25,7 +25,7 @@ use Rattle.table.proofs.LegalTables.{legal_known, length_records, is_bad, is_unk
 use Rattle.table.proofs.Written.{header_stays}
 use Rattle.rules.specs.declared.Media.{Media}
 use Rattle.rules.specs.Rules.{media_rule}
-use Rattle.steps.specs.Items.{Item, tick, item_of, The}
+use Rattle.steps.specs.Items.{Item, tick, item_of}
 use Rattle.steps.specs.Meanings.{event, ticked, meaning}
 use Rattle.by_value.specs.Ticks.{tick_one}
 use Rattle.steps.specs.Card.{refusal_all, refusal_of, concerns, touched, sets_after, effect_on, at_desk, after, answer}

@@ -1,7 +1,7 @@
 -- What a command that no row refuses is known to have: its data, its room, and a start within its page.
 use mathlib.Core.Path.{◌≡◌, refl, sym, ◌∙◌}
 use mathlib.Core.Bool.{true, false, not, ◌&&◌, ◌||◌}
-use mathlib.Core.List.{List, [], ◌∷◌, ◌++◌}
+use mathlib.Core.List.{[], ◌∷◌, ◌++◌}
 use Prim.Native.Nat.{ℕ, ◌%◌, ◌≤◌}
 use borrow.Author.Tests.{ltb-false}
 use lib.Dec.{ltb, eqb}

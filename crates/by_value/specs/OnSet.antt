@@ -1,6 +1,5 @@
 -- What a command that names a set does, where the set was found: for the functions that carry it out.
-use Rattle.std.specs.Prelude.{◌≡◌, List, ◌++◌, ℕ, eqb, length}
-use Rattle.octets.specs.Choice.{if◌then◌else◌}
+use Rattle.std.specs.Prelude.{◌≡◌, List, ◌++◌, ℕ, eqb, length, if◌then◌else◌}
 use Rattle.record.specs.declared.Record.{Record}
 use Rattle.record.specs.Event.{settled, newly_listed}
 use Rattle.desk.specs.Desk.{Told, settle}

@@ -1,6 +1,5 @@
 // A command on the record of the set that it names: what it does to it, and what it answers from it.
-ghost use Rattle.std.specs.Prelude.{◌≡◌, true, List, ℕ, ◌≤◌, length};
-ghost use Rattle.octets.specs.Choice.{if◌then◌else◌};
+ghost use Rattle.std.specs.Prelude.{◌≡◌, true, List, ℕ, ◌≤◌, length, if◌then◌else◌};
 ghost use Rattle.record.specs.Event.{settled};
 ghost use Rattle.record.specs.Windows.{window_no};
 ghost use Rattle.replies.specs.Status.{first_of};

@@ -1,7 +1,6 @@
 // What a command does and answers, from its 64 bytes.
-ghost use Rattle.std.specs.Prelude.{◌≡◌, true, false, List, ℕ, ◌+◌, ◌≤◌, length};
+ghost use Rattle.std.specs.Prelude.{◌≡◌, true, false, List, ℕ, ◌+◌, ◌≤◌, length, if◌then◌else◌};
 ghost use Rattle.replies.specs.Status.{first_of};
-ghost use Rattle.octets.specs.Choice.{if◌then◌else◌};
 ghost use Rattle.desk.specs.Desk.{lifted};
 ghost use Rattle.table.specs.Table.{row_start, desk_at, with_desk, DeskThere};
 ghost use Rattle.commands.specs.declared.Kind.{Kind};

@@ -1,6 +1,6 @@
 -- Set-up's rows, written one after another into a region.
 use mathlib.Core.Path.{◌≡◌, refl, sym, ap, ap₂, ◌∙◌}
-use mathlib.Core.List.{List, [], ◌∷◌, map}
+use mathlib.Core.List.{List, ◌∷◌, map}
 use Prim.Native.Nat.{ℕ, ◌+◌, ◌*◌, ◌-◌, ◌/◌, ◌≤◌, ◌<◌}
 use native.Mathlib.Omega.{arith}
 use native.Mathlib.Nat.{sub-zero}
@@ -19,7 +19,7 @@ use Rattle.table.specs.Card.{layout_number}
 use Rattle.table.specs.Table.{row_start}
 use Rattle.table.proofs.Records.{length_words}
 use Rattle.pages.specs.Bodies.{body_size, attributes_in, kept_of}
-use Rattle.steps.specs.SetUp.{new_record, attributes_from, bodies, new_sets, new_card, set_up_status, new_table, SetUp}
+use Rattle.steps.specs.SetUp.{new_record, attributes_from, bodies, new_sets, new_card, set_up_status, new_table}
 use Rattle.steps.proofs.NewSets.{well, new_length, new_header}
 use Rattle.by_value.specs.SetUp.{kept_record}
 use Rattle.by_value.proofs.Bodies.{bodies_none, bodies_more, kept_sets, set_up_refused, set_up_done}

@@ -5,12 +5,10 @@ use mathlib.Core.List.{List}
 use Prim.Native.Nat.{ℕ}
 use native.Mathlib.Omega.{arith}
 use borrow.Author.Tests.{eq-eqb}
-use lib.ListN.{length}
 use Rattle.record.specs.Event.{bit}
 use Rattle.steps.specs.Items.{Item}
 use Rattle.steps.specs.Rows.{carried_out}
 use Rattle.steps.specs.Words.{Result, step_words}
-use Rattle.steps.specs.SetUp.{set_up}
 use Rattle.steps.proofs.OnWords.{refused_words}
 use Rattle.steps.proofs.ExactRefusals.{number_tells_words, set_up_refused, set_up_answers}
 use Rattle.steps.specs.Demands.{refusal_words}

@@ -1,10 +1,9 @@
 // What a command does and answers, on the table where it lies.
-ghost use Rattle.std.specs.Prelude.{◌≡◌, true, false, List, ℕ, ◌≤◌, length};
+ghost use Rattle.std.specs.Prelude.{◌≡◌, true, false, List, ℕ, ◌≤◌, length, if◌then◌else◌};
 ghost use Rattle.replies.specs.Status.{first_of};
 ghost use Rattle.commands.specs.declared.Kind.{Kind};
 ghost use Rattle.commands.specs.Shapes.{kind_of, is_named, named_by, needs_in};
 ghost use Rattle.commands.specs.StatusTable.{early_lines};
-ghost use Rattle.octets.specs.Choice.{if◌then◌else◌};
 ghost use Rattle.record.specs.Event.{newly_listed};
 ghost use Rattle.desk.specs.Desk.{lifted};
 ghost use Rattle.table.specs.Table.{desk_at, with_desk, DeskThere};

@@ -65,12 +65,7 @@ pub fn card_excursion(table: &mut [u8], set: u16, reply: &mut [u8]) -> u16
     r.status
 }
 
-pub fn card_tick(
-    table: &mut [u8],
-    milliseconds: u32,
-    answer: &mut [u8],
-    reply: &mut [u8],
-) -> u16
+pub fn card_tick(table: &mut [u8], milliseconds: u32, answer: &mut [u8], reply: &mut [u8]) -> u16
     ensures { AnsweredAtC table.old (Item.tick milliseconds (length answer.old)) answer.old reply.old result table.new answer.new reply.new }
 {
     let r = ticks(table, milliseconds, answer);

@@ -1,6 +1,5 @@
 -- 01, "Commands": what a command's 64 bytes say.
-use Rattle.std.specs.Prelude.{Bool, List, ℕ, suc, ◌+◌, ◌*◌, ◌-◌, ◌/◌, ◌%◌, ◌^◌, eqb, length}
-use Rattle.octets.specs.Choice.{if◌then◌else◌}
+use Rattle.std.specs.Prelude.{Bool, List, ℕ, suc, ◌+◌, ◌*◌, ◌-◌, ◌/◌, ◌%◌, ◌^◌, eqb, length, if◌then◌else◌}
 use Rattle.octets.specs.Octets.{padded}
 use Rattle.octets.specs.Numbers.{number_at}
 use Rattle.record.specs.declared.Window.TheVariants.{D}

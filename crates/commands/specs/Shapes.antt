@@ -1,8 +1,7 @@
 -- 01's commands, and 02's, as one table: what each is, what data it takes and answers, whom it names, and which rows of the status table look
 -- at it. What a command does to the set that it names or to the desk, and its page and dword 0, stand by kind in
 -- crates/steps/specs/Commanded.antt.
-use Rattle.std.specs.Prelude.{Bool, true, false, not, ◌||◌, List, [], ◌∷◌, ℕ, ◌*◌, eqb}
-use Rattle.octets.specs.Choice.{if◌then◌else◌}
+use Rattle.std.specs.Prelude.{Bool, true, false, not, ◌||◌, List, [], ◌∷◌, ℕ, ◌*◌, eqb, if◌then◌else◌}
 use Rattle.octets.specs.Lists.{keep}
 use Rattle.pages.specs.Features.{feature_size}
 use Rattle.pages.specs.Latency.{latency_size}

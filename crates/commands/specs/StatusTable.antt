@@ -1,7 +1,6 @@
 -- 01, "Status numbers .. checked in this order": a row each from "command not of 64 bytes" on, for every command; `command_rows` of
 -- crates/steps/specs/Rows.antt has all eleven under each other, and 02's. Which rows look at a command stands in its row of Shapes.antt.
-use Rattle.std.specs.Prelude.{Bool, not, ◌&&◌, ◌||◌, List, [], ◌∷◌, ℕ, ◌%◌, ltb, leb, eqb}
-use Rattle.octets.specs.Choice.{if◌then◌else◌}
+use Rattle.std.specs.Prelude.{Bool, not, ◌&&◌, ◌||◌, List, [], ◌∷◌, ℕ, ◌%◌, ltb, leb, eqb, if◌then◌else◌}
 use Rattle.octets.specs.Lists.{any_of}
 use Rattle.desk.specs.Desk.{requests_maximum}
 use Rattle.record.specs.declared.State.{State}

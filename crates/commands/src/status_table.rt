@@ -1,6 +1,5 @@
 // 01's status table, for every command.
-ghost use Rattle.std.specs.Prelude.{◌≡◌, true, not, ◌&&◌, ◌||◌, [], ◌∷◌, ◌++◌, eqb, ltb, ℕ};
-ghost use Rattle.octets.specs.Choice.{if◌then◌else◌};
+ghost use Rattle.std.specs.Prelude.{◌≡◌, true, not, ◌&&◌, ◌||◌, [], ◌∷◌, ◌++◌, eqb, ltb, ℕ, if◌then◌else◌};
 ghost use Rattle.replies.specs.Numbers.{success, invalid_field, not_saveable, too_short, too_many_requests};
 ghost use Rattle.replies.specs.Status.{line, first_of};
 ghost use Rattle.commands.specs.Commands.{save, select};

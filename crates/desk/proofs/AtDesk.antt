@@ -1,13 +1,13 @@
 -- What is done to a desk's words is what is done to the desk.
-use mathlib.Core.Path.{◌≡◌, refl, sym, ap, ◌∙◌}
+use mathlib.Core.Path.{◌≡◌, refl, ap, ◌∙◌}
 use mathlib.Core.Bool.{Bool, true, false, not, ◌&&◌, ◌||◌}
 use mathlib.Core.List.{List, [], ◌∷◌, ◌++◌}
 use Prim.Native.Nat.{ℕ, ◌≤◌, ◌<◌}
 use native.Mathlib.Omega.{arith}
 use borrow.Author.Tests.{leb-true, le-leb}
-use lib.Dec.{leb, ltb, eqb}
+use lib.Dec.{leb, ltb}
 use lib.ListN.{length, get_or, length-append}
-use Rattle.octets.specs.Choice.{if◌then◌else◌, bit}
+use Rattle.std.specs.Prelude.{if◌then◌else◌}
 use Rattle.desk.specs.Desk.{Desk, desk_of, queued, turned, lifted, Told, send_by, settle, requests_maximum, identifier_maximum, all_identifiers}
 use Rattle.desk.specs.Words.{desk_words, desk_in, WordsOfDesk}
 use Rattle.desk.specs.AtWords.{queued_words, turned_words, lifted_words, sends, served, remembered, settled_words}

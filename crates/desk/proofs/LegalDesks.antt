@@ -1,16 +1,16 @@
 -- The words of a legal desk, and the desk of such words: each determines the other.
-use mathlib.Core.Path.{◌≡◌, refl, sym, ap, ◌∙◌}
-use mathlib.Core.Bool.{Bool, true, false, not, ◌&&◌, ◌||◌}
+use mathlib.Core.Path.{◌≡◌, refl, sym}
+use mathlib.Core.Bool.{Bool, true, false, not, ◌&&◌}
 use mathlib.Core.List.{List, [], ◌∷◌}
 use Prim.Native.Nat.{ℕ, zero, suc}
 use native.Mathlib.Omega.{arith}
 use borrow.Author.Tests.{leb-true, lt-ltb}
 use lib.Dec.{leb, ltb, eqb}
-use lib.ListN.{length, get_or}
+use lib.ListN.{length}
 use Rattle.octets.specs.Choice.{bit}
-use Rattle.octets.proofs.JoinedTests.{both, together, and_left, and_right}
+use Rattle.octets.proofs.JoinedTests.{both, together}
 use Rattle.desk.specs.Desk.{Desk, desk_of, waits, ready, requests_maximum, identifier_maximum, all_identifiers, legal_desk}
-use Rattle.desk.specs.Words.{desk_size, desk_words, desk_in, place_legal, servable, desk_legal, WordsOfDesk, LegalWords, DeskOfWords, LegalDesks}
+use Rattle.desk.specs.Words.{desk_size, desk_words, place_legal, desk_legal, WordsOfDesk, LegalWords, DeskOfWords, LegalDesks}
 use Rattle.desk.proofs.Bits.{bit_one, bit_none, bit_small, bit_back, none_not, identifier_whole, used_place, free_place}
 
 pub length_desk : (d : Desk) → length (desk_words d) ≡ desk_size

@@ -1,6 +1,6 @@
 -- Laws of the desk: when a notice goes out, what stays legal, and in what order two items may come.
 use mathlib.Core.Path.{◌≡◌, refl, sym, ap, ◌∙◌}
-use mathlib.Core.Bool.{Bool, true, false, not, ◌&&◌, ◌||◌}
+use mathlib.Core.Bool.{Bool, true, false, not, ◌&&◌}
 use mathlib.Core.List.{List, [], ◌∷◌, ◌++◌, append-nil}
 use mathlib.Core.Logic.{◌⊎◌, inl, inr, ⊎_elim}
 use Prim.Native.Nat.{ℕ, ◌≤◌}
@@ -8,12 +8,11 @@ use native.Mathlib.Omega.{arith}
 use borrow.Author.Tests.{leb-true, le-leb, not-true}
 use lib.Dec.{leb}
 use lib.ListN.{length}
-use Rattle.octets.specs.Choice.{if◌then◌else◌}
+use Rattle.std.specs.Prelude.{if◌then◌else◌}
 use Rattle.octets.proofs.JoinedTests.{both, together}
-use Rattle.replies.specs.declared.Notice.{Notice}
-use Rattle.replies.specs.declared.Notice.TheVariants.{Unsent, To}
+use Rattle.replies.specs.declared.Notice.TheVariants.{To}
 use Rattle.replies.specs.Answers.{told_of}
-use Rattle.desk.specs.Desk.{Desk, desk_of, Told, ready, quiet, send, raised_by, settle, requests_maximum, all_identifiers, legal_desk}
+use Rattle.desk.specs.Desk.{Desk, desk_of, Told, ready, quiet, send, settle, requests_maximum, all_identifiers, legal_desk}
 use Rattle.desk.proofs.LegalDesks.{fine}
 
 -- ---- the flag is served, or the desk stays as it is

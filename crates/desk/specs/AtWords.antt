@@ -1,6 +1,6 @@
 -- What is done to a desk, done to its words: for the functions that hold it so. proofs/AtDesk.antt says that it is the same.
-use Rattle.std.specs.Prelude.{Bool, ◌&&◌, ◌||◌, List, [], ◌∷◌, ℕ, ◌+◌, ◌-◌, ◌%◌, ◌^◌, leb, ltb, eqb, get_or, set}
-use Rattle.octets.specs.Choice.{if◌then◌else◌, bit}
+use Rattle.std.specs.Prelude.{Bool, ◌&&◌, ◌||◌, List, [], ◌∷◌, ℕ, ◌+◌, ◌-◌, ◌%◌, ◌^◌, leb, ltb, eqb, get_or, set, if◌then◌else◌}
+use Rattle.octets.specs.Choice.{bit}
 use Rattle.replies.specs.declared.Notice.TheVariants.{Unsent, To}
 use Rattle.desk.specs.Desk.{requests_maximum}
 use Rattle.desk.specs.Words.{on_word, masked_word, flag_word, count_word, first_waiting, place_legal}

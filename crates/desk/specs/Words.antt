@@ -1,5 +1,5 @@
 -- The desk's words, which stand in the header of a table, in the order of docs/LAYOUT.md; and which words are those of a legal desk.
-use Rattle.std.specs.Prelude.{◌≡◌, Bool, true, not, ◌&&◌, ◌||◌, List, [], ◌∷◌, map, ℕ, ◌+◌, ◌%◌, ◌^◌, leb, ltb, eqb, length, get_or, take, drop}
+use Rattle.std.specs.Prelude.{◌≡◌, Bool, true, not, ◌&&◌, ◌||◌, List, ◌∷◌, map, ℕ, ◌+◌, ◌%◌, ◌^◌, leb, ltb, eqb, length, get_or, take, drop}
 use Rattle.octets.specs.Choice.{bit}
 use Rattle.octets.specs.Octets.{padded}
 use Rattle.desk.specs.Desk.{Desk, desk_of, requests_maximum, identifier_maximum, legal_desk}

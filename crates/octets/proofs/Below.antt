@@ -1,7 +1,7 @@
 -- Lists of numbers that are all below a bound, as bytes are and words: parts of them, and what is put among them.
 use mathlib.Core.List.{List, [], ◌∷◌}
 use Prim.Native.Nat.{ℕ, zero, suc, ◌+◌, ◌<◌}
-use lib.ListN.{get_or, set, take, drop}
+use lib.ListN.{set, take, drop}
 use lib.Seq.{sets, get_or-drop}
 use Rattle.octets.specs.Octets.{part, AllBelow}
 

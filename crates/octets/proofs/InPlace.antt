@@ -7,7 +7,7 @@ use native.Mathlib.Omega.{arith}
 use lib.Dec.{lit<}
 use lib.ListN.{length, get_or, set, take, drop, length-take, length-drop, take-append-drop}
 use lib.Seq.{sets, length-sets, drop-drop}
-use Rattle.octets.specs.Octets.{bytes_of, number_of, part, AllBelow, AllBytes}
+use Rattle.octets.specs.Octets.{bytes_of, number_of, part, AllBytes}
 use Rattle.octets.specs.Words.{word_size, AllWords, words_from, put_words}
 use Rattle.octets.proofs.Runs.{sets_whole, sets_append, sets_comm, sets_over, part_other}
 use Rattle.octets.proofs.Below.{below_rest, sets_below, Each, each_below}

@@ -1,13 +1,13 @@
 -- Words and their bytes: one turn of each loop; what is put back over its own bytes; what lies past.
 use mathlib.Core.Path.{◌≡◌, refl, sym, ap, ap₂, ◌∙◌}
 use mathlib.Core.List.{List, [], ◌∷◌, ◌++◌}
-use Prim.Native.Nat.{ℕ, zero, suc, ◌+◌, ◌*◌, ◌-◌, ◌/◌, ◌%◌, ◌^◌, ◌≤◌, ◌<◌}
+use Prim.Native.Nat.{ℕ, zero, suc, ◌+◌, ◌*◌, ◌-◌, ◌/◌, ◌%◌, ◌≤◌, ◌<◌}
 use native.Mathlib.Omega.{arith}
 use native.Mathlib.Nat.{zero-add, suc-add}
 use native.Mathlib.Numerals.{add-one}
 use lib.Dec.{lit<}
 use lib.ListN.{length, get_or, set, take, drop, length-take, length-drop}
-use lib.Seq.{sets, length-sets, drop-cons, drop-length, drop-drop, get_or-drop}
+use lib.Seq.{sets, length-sets, drop-cons, drop-length, drop-drop}
 use Rattle.octets.specs.Octets.{bytes_of, number_of, part, AllBytes}
 use Rattle.octets.specs.Words.{word_size, words_from, put_words}
 use Rattle.octets.proofs.Runs.{sets_self, drop_sets}

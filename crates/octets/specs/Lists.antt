@@ -1,12 +1,11 @@
 -- Lists by tests, and lists in order. Nothing of the card.
-use Rattle.std.specs.Prelude.{Bool, false, ◌||◌, List, [], ◌∷◌, ◌++◌, ℕ, zero, suc, ◌<◌}
+use Rattle.std.specs.Prelude.{Bool, false, ◌||◌, List, [], ◌∷◌, ◌++◌, ℕ, zero, suc, ◌<◌, cond}
 use Rattle.std.proofs.Math.Option.{Option, none, some}
-use Rattle.octets.specs.Choice.{if◌then◌else◌}
 
 -- the first element that passes a test
 abbrev pub first {ℓ} : {A : Type ℓ} → (A → Bool) → List A → Option A
 first p [] = none
-first p (x ∷ xs) = if p x then some x else first p xs
+first p (x ∷ xs) = cond (p x) (some x) (first p xs)
 
 -- whether some element passes it
 abbrev pub any_of {ℓ} : {A : Type ℓ} → (A → Bool) → List A → Bool
@@ -22,7 +21,7 @@ nth (suc k) (x ∷ xs) = nth k xs
 -- the elements that pass a test
 abbrev pub keep {ℓ} : {A : Type ℓ} → (A → Bool) → List A → List A
 keep p [] = []
-keep p (x ∷ xs) = if p x then x ∷ keep p xs else keep p xs
+keep p (x ∷ xs) = cond (p x) (x ∷ keep p xs) (keep p xs)
 
 -- lists joined
 abbrev pub join {ℓ} : {A : Type ℓ} → List (List A) → List A
@@ -33,7 +32,7 @@ join (x ∷ xs) = x ++ join xs
 abbrev pub beside {ℓ} : {A B : Type ℓ} → (A → Bool) → List A → List B → List B
 beside p [] ys = []
 beside p (x ∷ xs) [] = []
-beside p (x ∷ xs) (y ∷ ys) = if p x then y ∷ beside p xs ys else beside p xs ys
+beside p (x ∷ xs) (y ∷ ys) = cond (p x) (y ∷ beside p xs ys) (beside p xs ys)
 
 -- numbers that rise, each above the one before it and the first above `before`
 abbrev pub Rising : ℕ → List ℕ → Type 0

@@ -2,22 +2,19 @@
 use mathlib.Core.Path.{◌≡◌, refl, sym, ap, ◌∙◌}
 use mathlib.Core.Bool.{Bool, true, false}
 use mathlib.Core.List.{List, [], ◌∷◌, ◌++◌}
-use mathlib.Core.Logic.{inl, inr}
-use Prim.Native.Nat.{ℕ, zero, suc, ◌+◌, ◌*◌, ◌-◌, ◌/◌, ◌%◌, ◌^◌, ◌≤◌, ◌<◌}
+use Prim.Native.Nat.{ℕ, zero, suc, ◌+◌, ◌-◌, ◌%◌, ◌^◌, ◌≤◌, ◌<◌}
 use native.Mathlib.Nat.{zero-add, mod-eq_of_lt}
 use native.Mathlib.Omega.{arith}
-use borrow.Author.Rules.{rules}
-use lib.Bits.{bit_and}
-use lib.Dec.{eqb, lit<}
+use lib.Dec.{lit<}
 use lib.ListN.{length, get_or, take, drop, replicate, length-append, length-take, length-drop, length-replicate}
 use lib.Seq.{sets, length-sets, sets-eq, take-append-add, take-add, drop-drop}
 use borrow.Author.Tests.{leb-true}
-use Rattle.octets.specs.Choice.{if◌then◌else◌}
+use Rattle.std.specs.Prelude.{if◌then◌else◌}
 use Rattle.octets.specs.Octets.{bytes_of, number_of, part, AllBytes}
 use Rattle.octets.specs.declared.Place.{Place}
 use Rattle.octets.specs.Pages.{read_at, fields_at, puts, Fit, readings, values}
 use Rattle.octets.proofs.JoinedTests.{and_left, and_right}
-use Rattle.octets.proofs.Runs.{Apart, part_same, part_other, drop_sets, sets_join}
+use Rattle.octets.proofs.Runs.{drop_sets, sets_join}
 use Rattle.octets.proofs.Below.{part_below}
 use Rattle.octets.proofs.WordBytes.{bytes_number}
 use Rattle.octets.proofs.Pages.{placed, read_back}
@@ -35,7 +32,7 @@ use Rattle.record.specs.Quantities.{limit, spent_of, need_met}
 use Rattle.record.specs.Parts.{config_of}
 use Rattle.record.specs.Windows.{by_window, window_no}
 use Rattle.record.specs.Legal.{typical_maximum, day_ms, legal_attributes}
-use Rattle.record.specs.Event.{bit, bits_of, event_mask, events_in, estimate}
+use Rattle.record.specs.Event.{bit, bits_of, events_in, estimate}
 use Rattle.record.proofs.EventBits.{events_back, masked}
 use Rattle.octets.specs.Numbers.{number_at}
 use Rattle.pages.specs.Capacities.{low_half, high_half, capacity_in}

@@ -1,6 +1,5 @@
 -- 01, "Commands", and 02, "Sixty-four sessions": Identify 04h, the NVM Set List.
-use Rattle.std.specs.Prelude.{◌≡◌, Bool, List, [], ◌∷◌, ◌++◌, ℕ, ◌+◌, ◌*◌, leb, length, take}
-use Rattle.octets.specs.Choice.{if◌then◌else◌}
+use Rattle.std.specs.Prelude.{◌≡◌, Bool, List, [], ◌∷◌, ◌++◌, ℕ, ◌+◌, ◌*◌, leb, length, take, if◌then◌else◌}
 use Rattle.octets.specs.declared.Place.{Place}
 use Rattle.octets.specs.Pages.{Field, span, fields_at, places_from, puts, place}
 use Rattle.record.specs.declared.Attributes.{Attributes}

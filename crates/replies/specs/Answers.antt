@@ -1,7 +1,6 @@
 -- What is answered, and what the caller's buffer holds then.
-use Rattle.std.specs.Prelude.{◌≡◌, List, [], ◌∷◌, ℕ, ◌-◌, ◌≤◌, eqb, length, take, drop}
+use Rattle.std.specs.Prelude.{◌≡◌, List, [], ◌∷◌, ℕ, ◌-◌, ◌≤◌, eqb, length, take, drop, if◌then◌else◌}
 use Rattle.std.proofs.lemmas.List.Edits.{sets}
-use Rattle.octets.specs.Choice.{if◌then◌else◌}
 use Rattle.replies.specs.Numbers.{success, request_waits}
 use Rattle.replies.specs.declared.Notice.{Notice}
 use Rattle.replies.specs.declared.Notice.TheVariants.{Unsent, To}

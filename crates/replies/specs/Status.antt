@@ -1,6 +1,5 @@
 -- A status table: rows of a test and a number, in the document's order.
-use Rattle.std.specs.Prelude.{◌≡◌, Bool, true, false, ◌&&◌, List, [], ◌∷◌, ℕ, ltb}
-use Rattle.octets.specs.Choice.{if◌then◌else◌}
+use Rattle.std.specs.Prelude.{◌≡◌, Bool, true, false, ◌&&◌, List, [], ◌∷◌, ℕ, ltb, if◌then◌else◌}
 
 -- a row of the table: "when" and "number"
 pub record Line : Type 0 where

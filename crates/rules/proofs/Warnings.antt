@@ -1,18 +1,16 @@
 -- What 01's words on warnings come to, as specs/Rules.antt says.
 use mathlib.Core.Path.{◌≡◌, refl}
 use mathlib.Core.Bool.{Bool, true, false, and-false, and-true}
-use Prim.Native.Nat.{ℕ, ◌+◌, ◌-◌, ◌<◌}
+use Prim.Native.Nat.{◌+◌, ◌-◌}
 use native.Mathlib.Omega.{arith}
 use borrow.Author.Tests.{le-ltb, lt-ltb, lt-leb}
-use Rattle.octets.specs.Choice.{if◌then◌else◌}
-use Rattle.record.specs.declared.Attributes.{Attributes}
+use Rattle.std.specs.Prelude.{if◌then◌else◌}
 use Rattle.record.specs.declared.Quantity.{Quantity}
 use Rattle.record.specs.declared.Quantity.TheVariants.{Reads, Writes, Time}
-use Rattle.record.specs.declared.State.{State}
 use Rattle.record.specs.declared.Effect.{Effect}
 use Rattle.record.specs.Quantities.{limit, spent_of, threshold, enables}
-use Rattle.record.specs.Event.{left_of, warning, warns, starts_below, and_exceeded}
-use Rattle.rules.specs.Rules.{is_over, charge, ZeroNeverWarns, AboveWarnsOnEntry, OwnWarning}
+use Rattle.record.specs.Event.{left_of, warning, warns, and_exceeded}
+use Rattle.rules.specs.Rules.{is_over, ZeroNeverWarns, AboveWarnsOnEntry, OwnWarning}
 
 pub zero_never_warns : ZeroNeverWarns
 zero_never_warns q a c before after e =

@@ -1,16 +1,16 @@
 -- What each item does to the desk, and that a legal desk stays legal.
 use mathlib.Core.Path.{◌≡◌, refl, sym, ap, ◌∙◌}
-use mathlib.Core.Bool.{Bool, true, false, not, ◌&&◌, ◌||◌, or-false}
+use mathlib.Core.Bool.{Bool, true, false, not, ◌&&◌, or-false}
 use mathlib.Core.List.{List, [], ◌∷◌, ◌++◌, append-nil}
 use mathlib.Core.Option.{some}
-use mathlib.Core.Logic.{◌⊎◌, ⊎_elim}
+use mathlib.Core.Logic.{⊎_elim}
 use Prim.Native.Nat.{ℕ, zero, suc, ◌%◌, ◌/◌, ◌^◌, ◌≤◌, ◌<◌}
 use native.Mathlib.Omega.{arith}
 use native.Mathlib.Nat.{mod-lt}
 use borrow.Author.Tests.{eqb-true, eq-eqb, leb-true, leb-false}
 use lib.Dec.{eqb, leb}
 use lib.ListN.{length, set, length-append}
-use Rattle.octets.specs.Choice.{if◌then◌else◌}
+use Rattle.std.specs.Prelude.{if◌then◌else◌}
 use Rattle.replies.specs.declared.Notice.{Notice}
 use Rattle.replies.specs.declared.Notice.TheVariants.{Unsent, To}
 use Rattle.replies.specs.Status.{first_of}
@@ -19,7 +19,7 @@ use Rattle.replies.proofs.Rows.{passed}
 use Rattle.record.specs.declared.Record.{Record}
 use Rattle.record.specs.Parts.{id_of}
 use Rattle.record.specs.Event.{newly_listed}
-use Rattle.desk.specs.Desk.{Desk, Told, quiet, lifted, raised_by, send, settle, requests_maximum, identifier_maximum, all_identifiers, legal_desk}
+use Rattle.desk.specs.Desk.{Desk, quiet, lifted, raised_by, send, settle, requests_maximum, identifier_maximum, all_identifiers, legal_desk}
 use Rattle.desk.proofs.LegalDesks.{fine, one_of}
 use Rattle.desk.proofs.AtDesk.{queued_ids}
 use Rattle.desk.proofs.Sending.{few, send_legal, oldest}

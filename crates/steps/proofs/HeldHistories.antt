@@ -29,7 +29,7 @@ use Rattle.steps.specs.Words.{card_of, step_words}
 use Rattle.steps.specs.Demands.{configures, none_configures, window_of, none_moves, run_words, trace_words, told_words}
 use Rattle.steps.specs.Notices.{legal_card, accepted_by, accepted, reads_listed, lifts, none_lifts, lists_some, turns_notices, none_turns}
 use Rattle.steps.specs.Holders.{Holder, Called, History, last, items, lents, backs, shown, shown_with, naming, StaysLegal, OwnRecords, OwnAnswersBack, AggregateBack, NeverLost, SwapsBack, none_done, none_moved, ConfigBack, WindowBack, NoticesBack, all_hear, notices_told, accepted_calls, lifts_call, none_lift_calls, lists_some_call, desk_held, InTurnBack, SentBack, ElseBack, HeardBack, ServedBack, WokenBack, OneBack, asks_of, GivesEachBack, AskAnsweredBack, Demanded, Steps}
-use Rattle.octets.specs.Choice.{if◌then◌else◌}
+use Rattle.std.specs.Prelude.{if◌then◌else◌}
 use Rattle.pages.specs.Asking.{Ask}
 use Rattle.steps.specs.Commanded.{attributes_of}
 use Rattle.steps.specs.Asking.{ask_in}

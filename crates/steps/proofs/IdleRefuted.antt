@@ -9,7 +9,7 @@ use borrow.Author.Tests.{leb-true}
 use lib.Dec.{leb}
 use lib.ListN.{length, length-map, get_or, take, drop}
 use lib.Seq.{drop-cons}
-use Rattle.octets.specs.Choice.{if◌then◌else◌}
+use Rattle.std.specs.Prelude.{if◌then◌else◌}
 use Rattle.octets.specs.Octets.{number_of, part, padded}
 use Rattle.octets.specs.Lists.{keep}
 use Rattle.octets.proofs.JoinedTests.{and_left, and_right}

@@ -2,7 +2,7 @@
 use mathlib.Core.Path.{◌≡◌, refl, ◌∙◌}
 use mathlib.Core.Bool.{Bool, true, false}
 use mathlib.Core.List.{List, [], ◌∷◌, map}
-use mathlib.Core.Logic.{◌⊎◌, ⊎_elim}
+use mathlib.Core.Logic.{⊎_elim}
 use Prim.Native.Nat.{ℕ}
 use borrow.Author.Tests.{eqb-true, lt-ltb}
 use lib.Dec.{eqb}
@@ -19,7 +19,7 @@ use Rattle.table.proofs.LegalTables.{legal_known, desk_there, length_records, se
 use Rattle.table.proofs.Desks.{desk_legal_lem}
 use Rattle.table.proofs.Written.{Fitting, fitting, written_back, written_legal}
 use Rattle.steps.specs.Items.{Item, reads, writes, excursion, tick, command, Meaning, Nobody, Everybody, The}
-use Rattle.octets.specs.Choice.{if◌then◌else◌}
+use Rattle.std.specs.Prelude.{if◌then◌else◌}
 use Rattle.pages.specs.Features.{config_in}
 use Rattle.commands.specs.declared.Command.{Command}
 use Rattle.commands.specs.declared.Kind.{Kind}

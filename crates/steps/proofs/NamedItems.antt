@@ -5,13 +5,13 @@ use mathlib.Core.List.{List}
 use Prim.Native.Nat.{ℕ}
 use lib.Dec.{eqb}
 use lib.ListN.{length}
-use Rattle.octets.specs.Choice.{if◌then◌else◌}
+use Rattle.std.specs.Prelude.{if◌then◌else◌}
 use Rattle.rules.specs.declared.Media.{Media}
 use Rattle.rules.specs.declared.Media.TheVariants.{Reads, Writes, Excursion}
 use Rattle.rules.specs.Rules.{media_rule}
 use Rattle.commands.specs.declared.Command.{Command}
 use Rattle.commands.specs.declared.Kind.{Kind}
-use Rattle.steps.specs.Items.{Item, reads, writes, excursion, tick, command, item_of, Nobody, The}
+use Rattle.steps.specs.Items.{reads, writes, excursion, tick, command, item_of, Nobody, The}
 use Rattle.commands.specs.Commands.{command_in}
 use Rattle.commands.specs.Shapes.{kind_of, is_named, named_by}
 use Rattle.steps.specs.Commanded.{named, viewed, command_meaning}

@@ -1,34 +1,29 @@
 -- Set-up: what a status of 0 tells, and that what set-up leaves is a legal table of the new sets.
 use mathlib.Core.Path.{◌≡◌, refl, sym, ap, ◌∙◌}
-use mathlib.Core.Bool.{Bool, true, false, ◌&&◌, and-true, and-false}
+use mathlib.Core.Bool.{Bool, true, false, and-false}
 use mathlib.Core.List.{List, [], ◌∷◌, ◌++◌, map}
-use Prim.Native.Nat.{ℕ, zero, suc, ◌+◌, ◌-◌, ◌*◌, ◌≤◌, ◌<◌, min}
+use Prim.Native.Nat.{ℕ, zero, suc, ◌+◌, ◌*◌, ◌≤◌, ◌<◌, min}
 use native.Mathlib.Omega.{arith}
-use native.Mathlib.Nat.{sub-zero}
-use native.Mathlib.Numerals.{add-one}
-use borrow.Author.Tests.{eqb-true, eqb-false, ne_eqb, eq-eqb, not-false, leb-true, ltb-false, lt-leb}
+use borrow.Author.Tests.{eqb-true, eqb-false, not-false, leb-true, ltb-false, lt-leb}
 use lib.Dec.{eqb, leb}
 use lib.ListN.{length}
 use lib.Seq.{sets, length-sets}
-use Rattle.octets.specs.Choice.{if◌then◌else◌}
+use Rattle.std.specs.Prelude.{if◌then◌else◌}
 use Rattle.octets.proofs.JoinedTests.{both}
 use Rattle.octets.proofs.Runs.{take_through}
-use Rattle.record.specs.declared.Attributes.{Attributes}
-use Rattle.record.specs.declared.Record.{Record}
-use Rattle.record.specs.Legal.{in_range, legal_attributes, legal_record}
+use Rattle.record.specs.Legal.{in_range}
 use Rattle.replies.specs.Numbers.{bad_set_up}
 use Rattle.replies.proofs.Rows.{passed}
-use Rattle.table.specs.Layout.{words_of}
 use Rattle.table.specs.Card.{layout_number, header}
-use Rattle.table.specs.Table.{row_start, put, legal_sets, legal_table, written_from, written_rows, written, max_sets}
+use Rattle.table.specs.Table.{row_start, legal_sets, legal_table, max_sets}
 use Rattle.table.proofs.Written.{Fitting, written_back, written_legal}
-use Rattle.pages.specs.Bodies.{body_size, attributes_in}
+use Rattle.pages.specs.Bodies.{body_size}
 use Rattle.replies.specs.declared.Notice.TheVariants.{Unsent}
 use Rattle.replies.specs.Answers.{granted}
 use Rattle.desk.specs.Desk.{new_desk}
 use Rattle.desk.specs.Words.{desk_words}
 use Rattle.steps.specs.Words.{Result, card_of, unchanged}
-use Rattle.steps.specs.SetUp.{new_record, attributes_from, bodies, first_bodies, new_sets, new_card, set_up_lines, set_up_status, new_table, set_up, SetUp}
+use Rattle.steps.specs.SetUp.{new_record, attributes_from, bodies, first_bodies, new_sets, new_card, set_up_lines, set_up_status, new_table, set_up}
 
 -- ---- the status
 

@@ -1,12 +1,11 @@
 -- 02, "Wake the host", computed on the step: the table of its cases; that a swap may move a notice; and why a swap asks for a legal desk.
 use mathlib.Core.Path.{◌≡◌, refl, ap}
 use mathlib.Core.Bool.{true, false}
-use mathlib.Core.List.{List, [], ◌∷◌}
+use mathlib.Core.List.{[], ◌∷◌}
 use Prim.Native.Nat.{ℕ}
 use native.Mathlib.Omega.{arith}
 use Rattle.octets.specs.Choice.{bit}
 use Rattle.octets.specs.Pages.{place}
-use Rattle.replies.specs.declared.Notice.{Notice}
 use Rattle.replies.specs.Answers.{told_no}
 use Rattle.desk.specs.Desk.{Desk, desk_of}
 use Rattle.rules.specs.Door.{going}
@@ -15,7 +14,7 @@ use Rattle.pages.specs.Aggregate.{aggregate_page}
 use Rattle.pages.specs.Latency.{latency_page}
 use Rattle.commands.specs.Commands.{command_in}
 use Rattle.commands.specs.Shapes.{kind_by}
-use Rattle.steps.specs.Items.{Card, Item, reads, excursion}
+use Rattle.steps.specs.Items.{excursion}
 use Rattle.steps.specs.Commanded.{command_meaning}
 use Rattle.steps.specs.Meanings.{meaning}
 use Rattle.steps.specs.Card.{refusal_of, effect_on, concerns, touched, desk_on, at_desk, answer}

@@ -1,6 +1,5 @@
 -- The four inputs of specs/Order.antt are answered as it says, by computation.
 use mathlib.Core.Path.{refl}
-use Rattle.octets.specs.Pages.{place}
 use Rattle.table.specs.Table.{legal_table}
 use Rattle.commands.specs.Commands.{command_in}
 use Rattle.commands.specs.Shapes.{kind_by}

@@ -8,7 +8,7 @@ use native.Mathlib.Omega.{arith}
 use borrow.Author.Tests.{eqb-true, le-ltb, leb-true}
 use lib.Dec.{eqb, leb}
 use lib.ListN.{length, length-map, length-append}
-use Rattle.octets.specs.Choice.{if◌then◌else◌}
+use Rattle.std.specs.Prelude.{if◌then◌else◌}
 use Rattle.octets.proofs.JoinedTests.{both}
 use Rattle.record.specs.Legal.{in_range}
 use Rattle.replies.specs.Numbers.{bad_table}

@@ -2,8 +2,7 @@
 -- that asking so until a count below 31, or a last identifier of 65,535, gives each set once." Of the step, over any list of items;
 -- crates/pages/specs/Asking.antt has what a host reads and gathers. Each is proved under its name, in snake case, in
 -- proofs/Asking.antt. The same of calls, one after another, is `GivesEachBack` of Holders.antt.
-use Rattle.std.specs.Prelude.{◌≡◌, Bool, true, ◌&&◌, List, [], ◌∷◌, ◌++◌, ℕ, zero, suc, ◌≤◌, eqb, length}
-use Rattle.octets.specs.Choice.{if◌then◌else◌}
+use Rattle.std.specs.Prelude.{◌≡◌, Bool, true, ◌&&◌, List, [], ◌∷◌, ◌++◌, ℕ, zero, suc, ◌≤◌, eqb, length, if◌then◌else◌}
 use Rattle.record.specs.Legal.{number_maximum}
 use Rattle.replies.specs.Numbers.{success}
 use Rattle.table.specs.Table.{legal_sets, max_sets}

@@ -1,7 +1,6 @@
 -- What a command does and answers where no row of the status table refuses it. All else of a command stands in its row of
 -- crates/commands/specs/Shapes.antt: a new command is a row there, and a row here.
-use Rattle.std.specs.Prelude.{Bool, List, [], ◌∷◌, ◌++◌, map, ℕ, length}
-use Rattle.octets.specs.Choice.{if◌then◌else◌}
+use Rattle.std.specs.Prelude.{Bool, List, [], ◌∷◌, ◌++◌, map, ℕ, length, if◌then◌else◌}
 use Rattle.octets.specs.Octets.{padded}
 use Rattle.record.specs.declared.Attributes.{Attributes}
 use Rattle.record.specs.declared.State.{State}

@@ -5,9 +5,8 @@
 -- and what holds of the lent words in proofs/OnWords.antt and proofs/WordsStay.antt.
 -- But for page 0Bh, the features and which items name a set nothing here looks at a single item: an item names one set (`The`), goes
 -- to every set (`Everybody`) or to none (`Nobody`).
-use Rattle.std.specs.Prelude.{◌≡◌, Bool, true, false, not, ◌&&◌, ◌||◌, List, [], ◌∷◌, ◌++◌, map, ℕ, ◌*◌, eqb, length}
+use Rattle.std.specs.Prelude.{◌≡◌, Bool, true, false, not, ◌&&◌, ◌||◌, List, [], ◌∷◌, ◌++◌, map, ℕ, ◌*◌, eqb, length, if◌then◌else◌}
 use Rattle.std.proofs.Math.Option.{Option, none, some}
-use Rattle.octets.specs.Choice.{if◌then◌else◌}
 use Rattle.octets.specs.Octets.{AllBytes, padded}
 use Rattle.octets.specs.Words.{AllWords}
 use Rattle.record.specs.declared.Attributes.{Attributes}

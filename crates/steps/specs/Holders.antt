@@ -1,10 +1,9 @@
 -- Demand 3, "hands back", and what 02 promises of notices and of asking Identify again, at the place where users call: said once, of
 -- anything that holds a card and takes items, and of any calls to it, one after another. What is supposed of a call is only what its function promises; no run of the
 -- step stands in a hypothesis.
-use Rattle.std.specs.Prelude.{◌≡◌, Bool, true, false, not, ◌&&◌, ◌||◌, List, [], ◌∷◌, ◌++◌, map, ℕ, ◌+◌, ◌*◌, ◌≤◌, eqb, length}
+use Rattle.std.specs.Prelude.{◌≡◌, Bool, true, false, not, ◌&&◌, ◌||◌, List, [], ◌∷◌, ◌++◌, map, ℕ, ◌+◌, ◌*◌, ◌≤◌, eqb, length, if◌then◌else◌}
 use Rattle.std.proofs.Math.Option.{some}
 use Rattle.std.proofs.lemmas.List.Edits.{sets}
-use Rattle.octets.specs.Choice.{if◌then◌else◌}
 use Rattle.octets.specs.Octets.{AllBytes, part, padded}
 use Rattle.octets.specs.Lists.{nth, keep, beside, Rising}
 use Rattle.record.specs.declared.Record.{Record}

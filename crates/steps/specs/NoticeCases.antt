@@ -11,7 +11,7 @@ use Rattle.replies.specs.Answers.{told_of}
 use Rattle.desk.specs.Desk.{Desk, desk_of, new_desk}
 use Rattle.table.specs.Card.{Card, card_with}
 use Rattle.commands.specs.Shapes.{log_opcode, set_opcode, get_opcode, request_opcode, notices_fid, window_fid, latency_page_no, aggregate_page_no}
-use Rattle.steps.specs.Items.{Item, reads, excursion, tick, command}
+use Rattle.steps.specs.Items.{Item, excursion, tick, command}
 use Rattle.steps.specs.Commanded.{notices_bit}
 use Rattle.steps.specs.Card.{Outcome, step}
 use Rattle.steps.specs.Order.{seven, Each}

@@ -1,7 +1,6 @@
 -- 01, set-up: "the core first takes the 84-byte bodies below". One definition, apart from the step.
-use Rattle.std.specs.Prelude.{◌≡◌, false, not, List, [], ◌∷◌, map, ℕ, zero, suc, ◌+◌, ◌*◌, ◌/◌, ◌%◌, min, ltb, eqb, length, take}
+use Rattle.std.specs.Prelude.{◌≡◌, false, not, List, [], ◌∷◌, map, ℕ, zero, suc, ◌+◌, ◌*◌, ◌/◌, ◌%◌, min, ltb, eqb, length, take, if◌then◌else◌}
 use Rattle.std.proofs.lemmas.List.Edits.{sets}
-use Rattle.octets.specs.Choice.{if◌then◌else◌}
 use Rattle.record.specs.declared.Window.TheVariants.{Off}
 use Rattle.record.specs.declared.Attributes.{Attributes}
 use Rattle.record.specs.declared.State.{State}

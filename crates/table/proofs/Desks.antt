@@ -8,7 +8,7 @@ use native.Mathlib.Omega.{arith}
 use lib.Dec.{eqb}
 use lib.ListN.{length, get_or}
 use lib.Seq.{sets, length-sets}
-use Rattle.octets.proofs.Runs.{sets_comm, sets_self, sets_over, part_other, part_same}
+use Rattle.octets.proofs.Runs.{sets_comm, sets_self, part_other, part_same}
 use Rattle.replies.specs.declared.Notice.TheVariants.{Unsent}
 use Rattle.desk.specs.Desk.{Desk, Told, queued, turned, lifted, settle, requests_maximum, identifier_maximum, legal_desk}
 use Rattle.desk.specs.Words.{desk_size, desk_words, desk_in, desk_legal}

@@ -11,7 +11,7 @@ use lib.ListN.{length, get_or, length-map, length-take, length-drop}
 use Rattle.octets.proofs.JoinedTests.{both}
 use Rattle.record.specs.declared.Record.{Record}
 use Rattle.record.specs.Legal.{in_range, legal_record}
-use Rattle.octets.specs.Choice.{if◌then◌else◌}
+use Rattle.std.specs.Prelude.{if◌then◌else◌}
 use Rattle.record.specs.declared.Slot.{Slot}
 use Rattle.table.specs.declared.Found.{Found}
 use Rattle.table.specs.declared.Found.TheVariants.{At, Nothing}

@@ -8,7 +8,7 @@ use borrow.Author.Tests.{eqb-true, le-ltb, le-leb, lt-leb, eq-eqb, ne_eqb}
 use lib.Dec.{leb, ltb, eqb}
 use lib.ListN.{length, drop_of_length-le}
 use lib.Seq.{drop-cons}
-use Rattle.octets.specs.Choice.{if◌then◌else◌}
+use Rattle.std.specs.Prelude.{if◌then◌else◌}
 use Rattle.octets.proofs.JoinedTests.{both, together}
 use Rattle.record.specs.Windows.{window_no}
 use Rattle.record.specs.Event.{bit, bits_of, events_in}

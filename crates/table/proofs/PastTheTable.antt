@@ -2,19 +2,17 @@
 use mathlib.Core.Path.{◌≡◌, refl, ap, ap₂, ◌∙◌}
 use mathlib.Core.Bool.{◌&&◌}
 use mathlib.Core.List.{List, [], ◌∷◌, ◌++◌, map}
-use Prim.Native.Nat.{ℕ, zero, suc, ◌+◌, ◌≤◌, ◌<◌}
+use Prim.Native.Nat.{ℕ, zero, suc, ◌+◌, ◌≤◌}
 use native.Mathlib.Omega.{arith}
 use native.Mathlib.Nat.{zero-add}
 use borrow.Author.Tests.{le-leb}
-use lib.Dec.{leb}
 use lib.ListN.{length, length-append, get_or-append}
 use lib.Seq.{sets, length-sets}
 use Rattle.octets.proofs.Runs.{sets_append, part_append}
 use Rattle.record.specs.declared.Record.{Record}
-use Rattle.record.specs.Legal.{in_range}
 use Rattle.table.specs.Layout.{row_words, words_of, record_of}
 use Rattle.table.specs.Card.{Card, card_with, desk_start, header}
-use Rattle.table.specs.Table.{layout, count, desk_part, card_of, row_start, row, put, rows_from, rows, records_of, sized, legal_rows, legal_table, written_from, written_rows, written, max_sets}
+use Rattle.table.specs.Table.{layout, count, desk_part, card_of, row_start, put, rows_from, rows, records_of, sized, legal_rows, legal_table, written_from, written_rows, written}
 use Rattle.table.proofs.Records.{length_words}
 use Rattle.desk.specs.Words.{desk_size, desk_legal}
 use Rattle.table.proofs.Slots.{length_put}

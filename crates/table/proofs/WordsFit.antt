@@ -26,7 +26,6 @@ use Rattle.record.specs.Legal.{legal_record}
 use Rattle.table.specs.Layout.{row_words, words_of, record_of}
 use Rattle.table.specs.Card.{Card, header}
 use Rattle.table.specs.Table.{count, row_start, row, rows_from, put, records_of, legal_row, legal_after, legal_rows, legal_table, written_from, written_rows, written}
-use Rattle.table.specs.LegalWords.{words_legal}
 use Rattle.table.proofs.HeldWords.{words_of_record, held}
 use Rattle.table.proofs.Records.{row_of}
 use Rattle.table.proofs.LegalTables.{legal_known, rows_known}

@@ -1,5 +1,5 @@
 -- What the whole card keeps, and the words of a table that hold it apart from the sets' own: the header.
-use Rattle.std.specs.Prelude.{List, [], ◌∷◌, ℕ, length}
+use Rattle.std.specs.Prelude.{List, ◌∷◌, ℕ, length}
 use Rattle.desk.specs.Desk.{Desk}
 use Rattle.desk.specs.Words.{desk_words}
 use Rattle.record.specs.declared.Record.{Record}

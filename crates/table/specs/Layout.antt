@@ -1,6 +1,5 @@
 -- The words of one set: one field to a word, in the order of docs/LAYOUT.md.
-use Rattle.std.specs.Prelude.{List, [], ◌∷◌, ℕ, ◌%◌, ◌^◌, eqb, get_or}
-use Rattle.octets.specs.Choice.{if◌then◌else◌}
+use Rattle.std.specs.Prelude.{List, [], ◌∷◌, ℕ, ◌%◌, ◌^◌, eqb, get_or, if◌then◌else◌}
 use Rattle.record.specs.declared.Window.{Window}
 use Rattle.record.specs.declared.Window.TheVariants.{Off, D, N}
 use Rattle.record.specs.declared.Attributes.{Attributes}

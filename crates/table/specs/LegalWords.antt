@@ -1,7 +1,6 @@
 -- What docs/LAYOUT.md says of a legal row, word by word in its order, and that this is `legal_row`.
-use Rattle.std.specs.Prelude.{◌≡◌, Bool, not, ◌&&◌, ◌||◌, List, ℕ, leb, ltb, eqb, length, get_or}
+use Rattle.std.specs.Prelude.{◌≡◌, Bool, not, ◌&&◌, ◌||◌, List, ℕ, leb, ltb, eqb, length, get_or, if◌then◌else◌}
 use Rattle.std.specs.Int.Bits.{bit_and}
-use Rattle.octets.specs.Choice.{if◌then◌else◌}
 use Rattle.record.specs.Event.{event_mask}
 use Rattle.record.specs.Legal.{number_maximum, four_bytes_maximum, typical_maximum, day_ms, in_range}
 use Rattle.table.specs.Layout.{row_words}

@@ -1,7 +1,6 @@
 -- 01: "The table is a lent slice of 64-bit words": a header, then the sets, one row each. Words past it are not looked at.
-use Rattle.std.specs.Prelude.{◌≡◌, Bool, true, false, ◌&&◌, ◌||◌, List, [], ◌∷◌, map, ℕ, zero, suc, ◌+◌, ◌*◌, ◌≤◌, ltb, leb, eqb, length, get_or}
+use Rattle.std.specs.Prelude.{◌≡◌, Bool, true, false, ◌&&◌, ◌||◌, List, [], ◌∷◌, map, ℕ, zero, suc, ◌+◌, ◌*◌, ◌≤◌, ltb, leb, eqb, length, get_or, if◌then◌else◌}
 use Rattle.std.proofs.lemmas.List.Edits.{sets}
-use Rattle.octets.specs.Choice.{if◌then◌else◌}
 use Rattle.octets.specs.Octets.{part}
 use Rattle.replies.specs.declared.Notice.{Notice}
 use Rattle.desk.specs.Desk.{Desk, Told}

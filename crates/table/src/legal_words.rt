@@ -1,6 +1,5 @@
 // Legality of a row, straight on its words: `legal_words` ties it to that of the record.
-ghost use Rattle.std.specs.Prelude.{◌≡◌};
-ghost use Rattle.octets.specs.Choice.{if◌then◌else◌};
+ghost use Rattle.std.specs.Prelude.{◌≡◌, if◌then◌else◌};
 ghost use Rattle.table.specs.Table.{legal_after};
 ghost use Rattle.table.specs.LegalWords.{capacities_legal, statics_legal, within_bits, changing_legal, notes_legal};
 

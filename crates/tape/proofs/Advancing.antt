@@ -1,21 +1,17 @@
 -- One turn after another on a piece, as the functions take them.
 use mathlib.Core.Path.{◌≡◌, refl, sym, ap, ◌∙◌}
 use mathlib.Core.Bool.{Bool, true, false}
-use mathlib.Core.List.{List, []}
+use mathlib.Core.List.{List}
 use Prim.Native.Nat.{ℕ, zero, suc, ◌+◌, ◌-◌, ◌≤◌, ◌<◌}
 use native.Mathlib.Omega.{arith}
 use borrow.Author.Tests.{lt-ltb, le-ltb}
-use lib.Dec.{ltb, eqb}
 use lib.ListN.{length, take, drop, length-drop}
-use lib.Seq.{sets, length-sets}
-use Rattle.octets.specs.Choice.{if◌then◌else◌}
+use lib.Seq.{length-sets}
 use Rattle.octets.proofs.Runs.{part_same}
-use Rattle.steps.specs.Words.{Result}
-use Rattle.steps.specs.SetUp.{set_up}
 use Rattle.tape.specs.Text.{Put}
 use Rattle.tape.specs.Tape.{next_set, next_item}
 use Rattle.tape.specs.Printout.{item_length, set_length}
-use Rattle.tape.specs.Pieces.{progress, Turn, set_up_turn, set_turn, item_turn, turn_at, line_room, Player, player, stopped, moved, advanced, turns, anew, PlayedOn, most_turns}
+use Rattle.tape.specs.Pieces.{progress, set_turn, item_turn, turn_at, line_room, Player, player, advanced, turns, anew, PlayedOn, most_turns}
 use Rattle.tape.specs.Turning.{Turned, Advanced}
 use Rattle.tape.specs.declared.Next.{Next}
 use Rattle.tape.specs.declared.Next.TheVariants.{Whole, Short, Bad, Over}

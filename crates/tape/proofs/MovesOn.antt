@@ -1,16 +1,16 @@
 -- A call that has what it needs uses some of its piece or comes to a later stage: its first turn does, and later ones take nothing back.
-use mathlib.Core.Path.{◌≡◌, refl, sym, ap, ◌∙◌}
+use mathlib.Core.Path.{◌≡◌, refl, ap}
 use mathlib.Core.Bool.{Bool, true, false}
-use mathlib.Core.List.{List, [], ◌∷◌, ◌++◌}
+use mathlib.Core.List.{List, [], ◌∷◌}
 use Prim.Native.Nat.{ℕ, zero, suc, ◌+◌, ◌-◌, ◌≤◌, ◌<◌}
 use native.Mathlib.Omega.{arith}
 use borrow.Author.Tests.{le-ltb, leb-false}
 use lib.Dec.{ltb, leb, eqb, lit≤}
 use lib.ListN.{length, drop}
-use Rattle.octets.specs.Choice.{if◌then◌else◌}
+use Rattle.std.specs.Prelude.{if◌then◌else◌}
 use Rattle.tape.specs.Tape.{item_size, attributes_kind, attributes_size, next_body, next_set, next_item}
 use Rattle.steps.specs.SetUp.{first_bodies, set_up}
-use Rattle.tape.specs.Pieces.{Turn, set_turn, item_turn, turn_at, line_room, Player, player, stopped, moved, advanced, turns, most_turns, anew, PlayedOn, stages_left, longest_item, MovesOn}
+use Rattle.tape.specs.Pieces.{Turn, set_turn, item_turn, turn_at, line_room, Player, player, stopped, moved, advanced, turns, most_turns, anew, stages_left, longest_item, MovesOn}
 use Rattle.tape.specs.declared.Next.{Next}
 use Rattle.tape.specs.declared.Next.TheVariants.{Whole, Short, Bad, Over}
 use Rattle.tape.specs.declared.Stage.{Stage}

@@ -1,21 +1,20 @@
 -- Items of a tape: how long their bodies are, what their lines say, and what stands next.
 use mathlib.Core.Path.{◌≡◌, refl, sym, ap, subst, ◌∙◌}
-use mathlib.Core.Bool.{Bool, true, false, ◌&&◌}
+use mathlib.Core.Bool.{Bool, true, false}
 use mathlib.Core.List.{List, [], ◌∷◌, ◌++◌}
-use mathlib.Core.Option.{Option, none, some}
-use Prim.Native.Nat.{ℕ, zero, suc, ◌+◌, ◌-◌, ◌≤◌, ◌<◌}
+use mathlib.Core.Option.{some}
+use Prim.Native.Nat.{ℕ, zero, suc, ◌-◌, ◌≤◌, ◌<◌}
 use native.Mathlib.Omega.{arith}
-use borrow.Author.Tests.{lt-ltb, le-ltb, ltb-true, eq-eqb, ne_eqb, eqb-true}
-use lib.Dec.{ltb, leb, eqb, lit<, lit≤}
+use borrow.Author.Tests.{lt-ltb, le-ltb, ltb-true, ne_eqb, eqb-true}
+use lib.Dec.{ltb, lit≤}
 use lib.ListN.{length, get_or, take, drop, length-drop, get_or-eq_default}
 use lib.Seq.{sets, take-length}
-use Rattle.octets.specs.Choice.{if◌then◌else◌}
 use Rattle.octets.specs.Numbers.{number_at}
 use Rattle.octets.proofs.JoinedTests.{both}
 use Rattle.replies.specs.declared.Notice.{Notice}
 use Rattle.replies.specs.declared.Notice.TheVariants.{Unsent, To}
 use Rattle.replies.specs.declared.Reply.{Reply}
-use Rattle.replies.specs.Answers.{told_no, to_no, notice_of, cut, Replied}
+use Rattle.replies.specs.Answers.{told_no, to_no, notice_of, cut}
 use Rattle.commands.specs.Commands.{command_size}
 use Rattle.steps.specs.Items.{Item, reads, writes, excursion, tick, command}
 use Rattle.steps.specs.Words.{step_words, Answered, Handed}

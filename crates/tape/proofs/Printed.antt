@@ -3,27 +3,26 @@
 use mathlib.Core.Path.{◌≡◌, refl, sym, ap, ◌∙◌}
 use mathlib.Core.Bool.{Bool, true, false}
 use mathlib.Core.List.{List, [], ◌∷◌, ◌++◌, map, append-nil, append_assoc}
-use Prim.Native.Nat.{ℕ, zero, suc, ◌+◌, ◌*◌, ◌-◌, ◌/◌, ◌^◌, ◌≤◌, ◌<◌, min}
+use Prim.Native.Nat.{ℕ, zero, suc, ◌+◌, ◌*◌, ◌-◌, ◌^◌, ◌≤◌, ◌<◌, min}
 use native.Mathlib.Omega.{arith}
 use native.Mathlib.Nat.{zero-add}
 use native.Mathlib.Numerals.{add-one}
-use borrow.Author.Tests.{lt-ltb, le-ltb, le-leb, leb-true, ltb-true, ltb-false}
+use borrow.Author.Tests.{le-leb, leb-true, ltb-true, ltb-false}
 use lib.Dec.{ltb, leb, eqb}
 use lib.ListN.{length, get_or, take, drop, length-append, length-drop, get_or-append}
-use lib.Seq.{sets, length-sets, sets-eq, take_at, drop-append-le, drop-drop, length-take-le}
-use Rattle.octets.specs.Choice.{if◌then◌else◌}
+use lib.Seq.{sets, length-sets, drop-append-le, drop-drop, length-take-le}
+use Rattle.std.specs.Prelude.{if◌then◌else◌}
 use Rattle.octets.specs.Lists.{join}
 use Rattle.octets.specs.Octets.{part}
 use Rattle.octets.proofs.Runs.{part_same, part_append, sets_join}
 use Rattle.table.specs.Table.{max_sets}
 use Rattle.pages.specs.Bodies.{body_size}
-use Rattle.steps.specs.Words.{Result}
 use Rattle.steps.specs.SetUp.{bodies, with_body, first_bodies, set_up}
 use Rattle.steps.proofs.NewSets.{refused_many, first_more}
 use Rattle.tape.specs.Text.{sets_line, bad_line, end_line}
 use Rattle.tape.specs.Tape.{item_size, attributes_kind, attributes_size, words_after, line_for, next_body, next_set, next_item}
-use Rattle.tape.specs.Printout.{by_next, first_item, item_length, items_text, set_length, set_up_text, sets_text, printout_on}
-use Rattle.tape.specs.Pieces.{progress, at_start, most_bodies, bodies_room, most_counted, one_more, Turn, set_up_turn, set_turn, item_turn, turn_at, line_room, Player, player, stopped, moved, advanced, turns, most_turns, anew, PlayedOn, Call, Calls, at_end, text_of, Printed}
+use Rattle.tape.specs.Printout.{by_next, first_item, item_length, items_text, set_length, set_up_text, sets_text}
+use Rattle.tape.specs.Pieces.{at_start, most_bodies, bodies_room, one_more, Turn, set_turn, item_turn, turn_at, line_room, Player, player, stopped, moved, advanced, turns, most_turns, anew, PlayedOn, Call, Calls, at_end, text_of, Printed}
 use Rattle.tape.specs.declared.Next.{Next}
 use Rattle.tape.specs.declared.Next.TheVariants.{Whole, Short, Bad, Over}
 use Rattle.tape.specs.declared.Stage.{Stage}

@@ -1,19 +1,18 @@
 -- One turn of a tape, as its functions take it.
-use mathlib.Core.Path.{◌≡◌, refl, sym, ap, ◌∙◌}
+use mathlib.Core.Path.{◌≡◌, refl, sym, ◌∙◌}
 use mathlib.Core.Bool.{Bool, true, false}
 use mathlib.Core.List.{List, [], ◌∷◌}
-use Prim.Native.Nat.{ℕ, zero, suc, ◌+◌, ◌*◌, ◌-◌, ◌≤◌, ◌<◌, min}
+use Prim.Native.Nat.{ℕ, ◌+◌, ◌*◌, ◌-◌, ◌≤◌, ◌<◌, min}
 use native.Mathlib.Omega.{arith}
-use borrow.Author.Tests.{lt-ltb, le-ltb, eq-eqb, ne_eqb, leb-true, ltb-true}
+use borrow.Author.Tests.{lt-ltb, le-ltb, eq-eqb, ne_eqb, leb-true}
 use lib.Dec.{ltb, leb, eqb}
 use lib.ListN.{length, get_or, take, drop}
 use lib.Seq.{sets}
-use Rattle.octets.specs.Choice.{if◌then◌else◌}
-use Rattle.octets.specs.Octets.{part}
+use Rattle.std.specs.Prelude.{if◌then◌else◌}
 use Rattle.pages.specs.Bodies.{body_size}
 use Rattle.replies.specs.Answers.{cut}
 use Rattle.steps.specs.SetUp.{bodies, with_body, first_bodies, set_up, SetUp}
-use Rattle.tape.specs.Text.{sets_line, bad_line, end_line, Put}
+use Rattle.tape.specs.Text.{sets_line, Put}
 use Rattle.tape.specs.Tape.{item_size, item_in, attributes_kind, attributes_size, Played, next_body, next_set, next_item}
 use Rattle.tape.specs.Printout.{first_item, item_length, set_length}
 use Rattle.tape.specs.Pieces.{progress, most_bodies, bodies_room, most_counted, one_more, Turn, set_up_turn, set_turn, item_turn, turn_at}
@@ -21,7 +20,7 @@ use Rattle.tape.specs.Turning.{Turned}
 use Rattle.tape.specs.declared.Next.{Next}
 use Rattle.tape.specs.declared.Next.TheVariants.{Whole, Short, Bad, Over}
 use Rattle.tape.specs.declared.Stage.{Stage}
-use Rattle.tape.specs.declared.Stage.TheVariants.{Sets, Items, Ended}
+use Rattle.tape.specs.declared.Stage.TheVariants.{Items, Ended}
 use Rattle.tape.specs.declared.Progress.{Progress}
 
 -- ---- counting and keeping

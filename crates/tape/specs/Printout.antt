@@ -1,7 +1,6 @@
 -- 01, "Replay file and its printout": the printout of a whole file, from its bytes to its text.
-use Rattle.std.specs.Prelude.{true, List, [], ◌++◌, ℕ, zero, suc, ◌+◌, eqb, length, get_or, drop, replicate}
+use Rattle.std.specs.Prelude.{true, List, [], ◌++◌, ℕ, zero, suc, ◌+◌, eqb, length, get_or, drop, replicate, if◌then◌else◌}
 use Rattle.std.proofs.Math.Option.{Option}
-use Rattle.octets.specs.Choice.{if◌then◌else◌}
 use Rattle.octets.specs.Octets.{part}
 use Rattle.table.specs.Table.{row_start, max_sets}
 use Rattle.steps.specs.Items.{Item}

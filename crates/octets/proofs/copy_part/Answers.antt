@@ -32,8 +32,7 @@ loop-i-2-init c = (c.loop-i.invariant.0, c.loop-i-test.false, refl, refl)
 
 pub loop-i-2-preserved : goal.loop-i-2-preserved
 loop-i-2-preserved c =
-    let l = c.loop-i-2 in
-    (
+    let l = c.loop-i-2 in (
       search rules,
       search rules,
       search rules,

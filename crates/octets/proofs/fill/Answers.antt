@@ -13,8 +13,7 @@ put_row-requires c =
 
 pub loop-i-preserved : goal.loop-i-preserved
 loop-i-preserved c =
-    let l = c.loop-i in
-    (
+    let l = c.loop-i in (
       search rules,
       search rules,
       (fill_fits c.args.rows.now l.i (length c.args.page.now) (search rules) l.invariant.2).1,

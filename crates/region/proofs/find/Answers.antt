@@ -1,12 +1,8 @@
-use mathlib.Core.Path.{◌≡◌, sym, ◌∙◌}
-use mathlib.Core.Logic.{⊎_elim}
-use Prim.Native.Nat.{◌+◌, ◌-◌, ◌/◌, ◌≤◌, ◌<◌}
+use mathlib.Core.Path.{sym, ◌∙◌}
 use native.Mathlib.Omega.{arith}
 use borrow.Author.Rules.{rules}
 use lib.Dec.{lit≤}
-use Rattle.table.specs.Table.{count}
 use Rattle.table.proofs.Search.{not_below, search_all, number_inside, search_number, search_here, look_more, middle_inside, search_up, search_down, search_nowhere, search_zero}
-use Rattle.region.specs.Region.{table_in}
 use Rattle.region.proofs.Words.{length_in}
 use Rattle.region.proofs.find.Goals as goal
 use Rattle.region.proofs.find.Goals.{then-identifier-sets+else-id_at-want, else-identifier-sets}
@@ -29,8 +25,8 @@ returns-then-id_at-want c = search_here _ c.requires _ _ (number_inside _ c.requ
 pub loop-left-init : goal.loop-left-init
 loop-left-init c =
     elim c.if-identifier-sets.branch [
-      then-identifier-sets+else-id_at-want w ↦ rw (w.looks-is, w.left-is) (search_number _ c.requires _ _ c.count_of-sets.ensures c.if-id-eq0.false w.if-identifier-sets.true _ (λ e. w.if-id_at-want.false (w.id_at.ensures ∙ e)) (lit≤ tt))
-    | else-identifier-sets w ↦ rw (w.looks-is, w.left-is) (search_all _ c.requires _ _ _ c.count_of-sets.ensures (lit≤ tt))
+      | then-identifier-sets+else-id_at-want w ↦ rw (w.looks-is, w.left-is) (search_number _ c.requires _ _ c.count_of-sets.ensures c.if-id-eq0.false w.if-identifier-sets.true _ (λ e. w.if-id_at-want.false (w.id_at.ensures ∙ e)) (lit≤ tt))
+      | else-identifier-sets w ↦ rw (w.looks-is, w.left-is) (search_all _ c.requires _ _ _ c.count_of-sets.ensures (lit≤ tt))
     ]
 
 pub overflow_add-slot : goal.overflow_add-slot

@@ -1,10 +1,6 @@
-use mathlib.Core.Path.{◌≡◌}
-use mathlib.Core.Logic.{⊎_elim}
-use Prim.Native.Nat.{◌+◌, ◌-◌, ◌/◌, ◌≤◌, ◌<◌}
 use native.Mathlib.Omega.{arith}
 use borrow.Author.Rules.{rules}
 use lib.Dec.{lit≤}
-use Rattle.table.specs.Table.{count}
 use Rattle.table.proofs.Search.{not_below, search_all, number_inside, search_number, search_here, look_more, middle_inside, search_up, search_down, search_nowhere, search_zero}
 use Rattle.table.proofs.find.Goals as goal
 use Rattle.table.proofs.find.Goals.{then-identifier-sets+else-table-slot, else-identifier-sets}
@@ -33,8 +29,8 @@ returns-then-table-slot c = search_here _ c.requires _ _ (number_inside _ c.requ
 pub loop-left-init : goal.loop-left-init
 loop-left-init c =
     elim c.if-identifier-sets.branch [
-      then-identifier-sets+else-table-slot w ↦ rw (w.looks-is, w.left-is) (search_number _ c.requires _ _ c.to_size-sets.ensures c.if-id-eq0.false w.if-identifier-sets.true _ w.if-table-slot.false (lit≤ tt))
-    | else-identifier-sets w ↦ rw (w.looks-is, w.left-is) (search_all _ c.requires _ _ _ c.to_size-sets.ensures (lit≤ tt))
+      | then-identifier-sets+else-table-slot w ↦ rw (w.looks-is, w.left-is) (search_number _ c.requires _ _ c.to_size-sets.ensures c.if-id-eq0.false w.if-identifier-sets.true _ w.if-table-slot.false (lit≤ tt))
+      | else-identifier-sets w ↦ rw (w.looks-is, w.left-is) (search_all _ c.requires _ _ _ c.to_size-sets.ensures (lit≤ tt))
     ]
 
 pub overflow_add-slot-in-loop-left : goal.overflow_add-slot-in-loop-left

@@ -1,8 +1,6 @@
-use native.Mathlib.Omega.{arith}
 use borrow.Author.Rules.{rules}
 use lib.Dec.{lit<}
-use lib.ListN.{length}
-use Rattle.by_reference.proofs.Filled.{Filled, filled_more, set_up_all}
+use Rattle.by_reference.proofs.Filled.{filled_more, set_up_all}
 use Rattle.by_reference.proofs.lists.set_up.Goals as goal
 
 pub loop-i-preserved : goal.loop-i-preserved

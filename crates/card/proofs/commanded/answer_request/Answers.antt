@@ -12,11 +12,10 @@ pub waiting_at-waiting-requires : goal.waiting_at-waiting-requires
 waiting_at-waiting-requires c = desk_there _ (legal_known _ (sym c.legal.ensures ∙ c.if-legal.true))
 
 pub queue-requires : goal.queue-requires
-queue-requires c =
-    (
-      desk_there _ (legal_known _ (sym c.legal.ensures ∙ c.if-legal.true)),
-      request_few c.args.c 0 0 (desk_at c.args.table.now).waiting (sym (rw c.waiting_at-waiting.ensures at (c.request_status-status.ensures 0 0)) ∙ c.if-status-eq0.true),
-    )
+queue-requires c = (
+  desk_there _ (legal_known _ (sym c.legal.ensures ∙ c.if-legal.true)),
+  request_few c.args.c 0 0 (desk_at c.args.table.now).waiting (sym (rw c.waiting_at-waiting.ensures at (c.request_status-status.ensures 0 0)) ∙ c.if-status-eq0.true),
+)
 
 pub returns-then-status-eq0 : goal.returns-then-status-eq0
 returns-then-status-eq0 c =

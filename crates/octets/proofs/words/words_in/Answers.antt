@@ -11,8 +11,7 @@ loop-i-init c = (search rules, search rules, search rules, rw sub-zero)
 
 pub loop-i-preserved : goal.loop-i-preserved
 loop-i-preserved c =
-    let l = c.loop-i in
-    (
+    let l = c.loop-i in (
       search rules,
       search rules,
       search rules,

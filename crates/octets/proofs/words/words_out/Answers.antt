@@ -7,8 +7,7 @@ use Rattle.octets.proofs.words.words_out.Goals as goal
 
 pub loop-i-preserved : goal.loop-i-preserved
 loop-i-preserved c =
-    let l = c.loop-i in
-    (
+    let l = c.loop-i in (
       search rules,
       search rules,
       rw (c.put.ensures, length-sets) l.invariant.2,
