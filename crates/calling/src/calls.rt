@@ -30,7 +30,7 @@ fn reply_of(
 }
 
 fn answer_whole<W: Write>(
-    to: &mut W,
+    out: &mut W,
     head: &[u8; HEAD],
     kind: u64,
     table: &mut [u64],
@@ -40,11 +40,18 @@ fn answer_whole<W: Write>(
 ) {
     let r = reply_of(head, kind, table, bytes, given, answer);
     let notice = r.notice;
-    give_reply(to, r.status, r.dword, r.len, told_no(notice), to_no(notice));
+    give_reply(
+        out,
+        r.status,
+        r.dword,
+        r.len,
+        told_no(notice),
+        to_no(notice),
+    );
 }
 
 fn answer_part<W: Write>(
-    to: &mut W,
+    out: &mut W,
     table: &mut [u64],
     bytes: &[u8],
     given: &[u8],
@@ -53,7 +60,7 @@ fn answer_part<W: Write>(
     let mut status = 0;
     let mut dword = 0;
     let mut told = 0;
-    let mut completes = 0;
+    let mut to = 0;
     let written = command_part(
         table,
         bytes,
@@ -62,14 +69,14 @@ fn answer_part<W: Write>(
         &mut status,
         &mut dword,
         &mut told,
-        &mut completes,
+        &mut to,
     );
-    give_reply(to, status, dword, written.len(), told, completes);
-    give(to, written);
+    give_reply(out, status, dword, written.len(), told, to);
+    give(out, written);
 }
 
 fn answer_by<W: Write>(
-    to: &mut W,
+    out: &mut W,
     head: &[u8; HEAD],
     table: &mut [u64],
     bytes: &[u8],
@@ -78,16 +85,16 @@ fn answer_by<W: Write>(
 ) {
     let kind = number(head, 0, 1);
     if kind == 7 {
-        give_status(to, set_up(table, given));
+        give_status(out, set_up(table, given));
     } else if kind == 8 {
-        answer_part(to, table, bytes, given, answer);
+        answer_part(out, table, bytes, given, answer);
     } else {
-        answer_whole(to, head, kind, table, bytes, given, answer);
+        answer_whole(out, head, kind, table, bytes, given, answer);
     }
 }
 
 pub fn carry_out<W: Write>(
-    to: &mut W,
+    out: &mut W,
     head: &[u8; HEAD],
     table: &mut [u64],
     bytes: &[u8],
@@ -95,7 +102,7 @@ pub fn carry_out<W: Write>(
     answer: &mut [u8],
     buf: &mut [u8],
 ) {
-    answer_by(to, head, table, bytes, given, answer);
-    give_words(to, table, buf);
-    give(to, answer);
+    answer_by(out, head, table, bytes, given, answer);
+    give_words(out, table, buf);
+    give(out, answer);
 }

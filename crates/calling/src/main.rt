@@ -41,7 +41,7 @@ fn take_all<R: Read>(
 // One call; whether there may be another.
 fn one_call<R: Read, W: Write>(
     from: &mut R,
-    to: &mut W,
+    out: &mut W,
     words: &mut [u64],
     answer: &mut [u8],
     command: &mut [u8],
@@ -54,7 +54,7 @@ fn one_call<R: Read, W: Write>(
     let came = take_all(from, n, words, answer, command, data, buf);
     if begun & came {
         carry_out(
-            to,
+            out,
             &head,
             words_part(words, n.table),
             part(command, n.command),
@@ -70,7 +70,7 @@ fn one_call<R: Read, W: Write>(
 // A proved loop has to end, and nothing says that the input does: so it takes no more turns than a number that no run uses up.
 fn main(rt: HostRuntime) {
     let mut from = rt.reader();
-    let mut to = io::writer(&rt);
+    let mut out = io::writer(&rt);
     let mut words = [0u64; WORDS];
     let mut answer = [0u8; ANSWER];
     let mut command = [0u8; COMMAND];
@@ -79,7 +79,7 @@ fn main(rt: HostRuntime) {
     for _ in 0..u64::MAX {
         if !one_call(
             &mut from,
-            &mut to,
+            &mut out,
             &mut words,
             &mut answer,
             &mut command,

@@ -95,20 +95,20 @@ fn status_of(head: &[u8; HEAD], table: &mut [u64], bodies: &[u8]) -> u16 {
 }
 
 fn carry_out<W: Write>(
-    to: &mut W,
+    out: &mut W,
     head: &[u8; HEAD],
     table: &mut [u64],
     bodies: &[u8],
     buf: &mut [u8],
 ) {
-    give_status(to, status_of(head, table, bodies));
-    give_words(to, table, buf);
+    give_status(out, status_of(head, table, bodies));
+    give_words(out, table, buf);
 }
 
 // One call; whether there may be another.
 fn one_call<R: Read, W: Write>(
     from: &mut R,
-    to: &mut W,
+    out: &mut W,
     words: &mut [u64],
     data: &mut [u8],
     buf: &mut [u8],
@@ -120,7 +120,7 @@ fn one_call<R: Read, W: Write>(
     let b = take(from, data, n.data);
     if begun & a & b {
         carry_out(
-            to,
+            out,
             &head,
             words_part(words, n.table),
             part(data, n.data),
@@ -134,12 +134,12 @@ fn one_call<R: Read, W: Write>(
 // A proved loop has to end, and nothing says that the input does: so it takes no more turns than a number that no run uses up.
 fn main(rt: HostRuntime) {
     let mut from = rt.reader();
-    let mut to = io::writer(&rt);
+    let mut out = io::writer(&rt);
     let mut words = [0u64; WORDS];
     let mut data = [0u8; DATA];
     let mut buf = [0u8; BYTES];
     for _ in 0..u64::MAX {
-        if !one_call(&mut from, &mut to, &mut words, &mut data, &mut buf) {
+        if !one_call(&mut from, &mut out, &mut words, &mut data, &mut buf) {
             return;
         }
     }

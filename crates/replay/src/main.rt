@@ -47,16 +47,13 @@ fn input<R: Env + Files + Input + Eprint>(rt: &R) -> Option<Source<R::File, R::R
         Ok(n) => named(rt, &path[..n]),
         Err(FillError::NotPresent) => Some(Source::Standard(rt.reader())),
         Err(FillError::TooLong) => {
-            let _ = eprintln!(rt; "file name: too long");
+            let _ = eprintln!(rt; "file name: File name too long");
             None
         }
     }
 }
 
-fn named<R: Env + Files + Input + Eprint>(
-    rt: &R,
-    path: &[u8],
-) -> Option<Source<R::File, R::Reader>> {
+fn named<R: Files + Input + Eprint>(rt: &R, path: &[u8]) -> Option<Source<R::File, R::Reader>> {
     let Ok(path) = str::from_utf8(path) else {
         let _ = eprintln!(rt; "file name: not UTF-8");
         return None;

@@ -10,9 +10,11 @@
 // answer buffer. All numbers are little-endian.
 #![tactic(auto)]
 
-ghost use Rattle.std.specs.Prelude.{◌≡◌, true, ◌*◌, ◌≤◌, length, take};
+ghost use Rattle.std.specs.Prelude.{◌≡◌, true, ◌+◌, ◌*◌, ◌≤◌, length, take};
 ghost use Rattle.std.specs.Io.KnownBytes.{Appends, Consumes};
-ghost use Rattle.octets.specs.Words.{word_size, put_words};
+ghost use Rattle.octets.specs.Numbers.{number_at};
+ghost use Rattle.octets.specs.Words.{word_size};
+ghost use Rattle.streams.specs.Calls.{head_size, word_bytes, reply_bytes};
 
 use octets::words::{words_in, words_out};
 use std::io::{Read, Write};
@@ -22,7 +24,9 @@ pub const HEAD: usize = 16;
 const REPLY: usize = 14;
 
 // The number in some bytes of a head; 0 where they are not there.
-pub fn number(head: &[u8; HEAD], at: usize, width: usize) -> u64 {
+pub fn number(head: &[u8; HEAD], at: usize, width: usize) -> u64
+    ensures { at + width ≤ head_size → width ≤ word_size → result ≡ number_at head.now at width }
+{
     if at <= HEAD {
         if width <= 8 {
             if width <= HEAD - at {
@@ -42,7 +46,12 @@ pub struct Sizes {
     pub data: usize,
 }
 
-pub fn sizes_in(head: &[u8; HEAD]) -> Sizes {
+pub fn sizes_in(head: &[u8; HEAD]) -> Sizes
+    ensures table { result.table ≡ number_at head.now 8 2 }
+    ensures answer { result.answer ≡ number_at head.now 10 2 }
+    ensures command { result.command ≡ number_at head.now 12 2 }
+    ensures given { result.«data» ≡ number_at head.now 14 2 }
+{
     Sizes {
         table: number(head, 8, 2) as usize,
         answer: number(head, 10, 2) as usize,
@@ -52,34 +61,46 @@ pub fn sizes_in(head: &[u8; HEAD]) -> Sizes {
 }
 
 // The set, the count and the milliseconds of a head.
-pub fn set_in(head: &[u8; HEAD]) -> u16 {
+pub fn set_in(head: &[u8; HEAD]) -> u16
+    ensures { result ≡ number_at head.now 2 2 }
+{
     (number(head, 2, 2) % 65536) as u16
 }
 
-pub fn count_in(head: &[u8; HEAD]) -> u16 {
+pub fn count_in(head: &[u8; HEAD]) -> u16
+    ensures { result ≡ number_at head.now 4 2 }
+{
     (number(head, 4, 2) % 65536) as u16
 }
 
-pub fn time_in(head: &[u8; HEAD]) -> u32 {
+pub fn time_in(head: &[u8; HEAD]) -> u32
+    ensures { result ≡ number_at head.now 4 4 }
+{
     (number(head, 4, 4) % 4294967296) as u32
 }
 
 // The first n of a buffer; none where there are fewer.
-pub fn part<'a>(buf: &'a [u8], n: usize) -> &'a [u8] {
+pub fn part<'a>(buf: &'a [u8], n: usize) -> &'a [u8]
+    ensures { n ≤ length buf.now → result.now ≡ take n buf.now }
+{
     if n <= buf.len() {
         return &buf[0..n];
     }
     &buf[0..0]
 }
 
-pub fn part_mut<'a>(buf: &'a mut [u8], n: usize) -> &'a mut [u8] {
+pub fn part_mut<'a>(buf: &'a mut [u8], n: usize) -> &'a mut [u8]
+    ensures { n ≤ length buf.old → result.now ≡ take n buf.old }
+{
     if n <= buf.len() {
         return &mut buf[0..n];
     }
     &mut buf[0..0]
 }
 
-pub fn words_part<'a>(words: &'a mut [u64], n: usize) -> &'a mut [u64] {
+pub fn words_part<'a>(words: &'a mut [u64], n: usize) -> &'a mut [u64]
+    ensures { n ≤ length words.old → result.now ≡ take n words.old }
+{
     if n <= words.len() {
         return &mut words[0..n];
     }
@@ -88,7 +109,8 @@ pub fn words_part<'a>(words: &'a mut [u64], n: usize) -> &'a mut [u64] {
 
 // Reads n bytes to the start of a buffer; whether all came.
 pub fn take<R: Read>(from: &mut R, buf: &mut [u8], n: usize) -> bool
-    ensures { result ≡ true → (n ≤ length buf.new) × Consumes (R.remaining from.old) (R.remaining from.new) (take n buf.new) }
+    ensures room { result ≡ true → n ≤ length buf.new }
+    ensures bytes { result ≡ true → Consumes (R.remaining from.old) (R.remaining from.new) (take n buf.new) }
 {
     if n <= buf.len() {
         return from.read_exact(&mut buf[0..n]).is_ok();
@@ -96,20 +118,27 @@ pub fn take<R: Read>(from: &mut R, buf: &mut [u8], n: usize) -> bool
     false
 }
 
-fn from_bytes(bytes: &[u8], words: &mut [u64]) {
+fn from_bytes(bytes: &[u8], words: &mut [u64])
+    ensures { length words.old * word_size ≤ length bytes.now → word_bytes words.new ≡ take (length words.old * word_size) bytes.now }
+{
     if words.len() <= bytes.len() / 8 {
         words_in(bytes, 0, words);
     }
 }
 
-fn to_bytes(words: &[u64], bytes: &mut [u8]) {
+fn to_bytes(words: &[u64], bytes: &mut [u8])
+    ensures { length words.now * word_size ≤ length bytes.old → take (length words.now * word_size) bytes.new ≡ word_bytes words.now }
+{
     if words.len() <= bytes.len() / 8 {
         words_out(words, bytes, 0);
     }
 }
 
 // The same of words; their bytes pass through a buffer.
-pub fn take_words<R: Read>(from: &mut R, words: &mut [u64], n: usize, buf: &mut [u8]) -> bool {
+pub fn take_words<R: Read>(from: &mut R, words: &mut [u64], n: usize, buf: &mut [u8]) -> bool
+    ensures room { result ≡ true → n ≤ length words.new }
+    ensures bytes { result ≡ true → Consumes (R.remaining from.old) (R.remaining from.new) (word_bytes (take n words.new)) }
+{
     if n <= words.len() {
         if n <= buf.len() / 8 {
             let came = take(from, buf, 8 * n);
@@ -121,40 +150,46 @@ pub fn take_words<R: Read>(from: &mut R, words: &mut [u64], n: usize, buf: &mut 
 }
 
 // Writes bytes; whether all went.
-pub fn give<W: Write>(to: &mut W, bytes: &[u8]) -> bool
-    ensures { result ≡ true → Appends (W.contents to.old) (W.contents to.new) bytes.now }
+pub fn give<W: Write>(out: &mut W, bytes: &[u8]) -> bool
+    ensures { result ≡ true → Appends (W.contents out.old) (W.contents out.new) bytes.now }
 {
-    to.write_all(bytes).is_ok()
+    out.write_all(bytes).is_ok()
 }
 
 // The same of words.
-pub fn give_words<W: Write>(to: &mut W, words: &[u64], buf: &mut [u8]) -> bool {
+pub fn give_words<W: Write>(out: &mut W, words: &[u64], buf: &mut [u8]) -> bool
+    ensures { result ≡ true → Appends (W.contents out.old) (W.contents out.new) (word_bytes words.now) }
+{
     let n = words.len();
     if n <= buf.len() / 8 {
         to_bytes(words, buf);
-        return give(to, part(buf, 8 * n));
+        return give(out, part(buf, 8 * n));
     }
     false
 }
 
 pub fn give_reply<W: Write>(
-    to: &mut W,
+    out: &mut W,
     status: u16,
     dword: u32,
     len: usize,
     told: u16,
-    completes: u16,
-) -> bool {
+    to: u16,
+) -> bool
+    ensures { result ≡ true → Appends (W.contents out.old) (W.contents out.new) (reply_bytes status told dword len to) }
+{
     let mut reply = [0u8; REPLY];
     octets::put(&mut reply, 0, 2, status as u64);
     octets::put(&mut reply, 2, 2, told as u64);
     octets::put(&mut reply, 4, 4, dword as u64);
     octets::put(&mut reply, 8, 4, len as u64);
-    octets::put(&mut reply, 12, 2, completes as u64);
-    give(to, &reply)
+    octets::put(&mut reply, 12, 2, to as u64);
+    give(out, &reply)
 }
 
 // What has a status and nothing beside it.
-pub fn give_status<W: Write>(to: &mut W, status: u16) -> bool {
-    give_reply(to, status, 0, 0, 0, 0)
+pub fn give_status<W: Write>(out: &mut W, status: u16) -> bool
+    ensures { result ≡ true → Appends (W.contents out.old) (W.contents out.new) (reply_bytes status 0 0 0 0) }
+{
+    give_reply(out, status, 0, 0, 0, 0)
 }
