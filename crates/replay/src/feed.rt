@@ -38,7 +38,8 @@ pub fn fill<R: Read>(rt: &impl Eprint, from: &mut R, buf: &mut [u8], f: Feed) ->
     requires { f.have ≤ length buf.old }
     ensures kept { (f.have ≤ result.have) × (result.have ≤ length buf.new) × (take f.have buf.new ≡ take f.have buf.old) }
     ensures added { Consumes (R.remaining from.old) (R.remaining from.new) (drop f.have (take result.have buf.new)) }
-    ensures end { f.last ≡ false → result.last ≡ true → result.failed ≡ false → IsAtEnd (R.remaining from.new) }
+    ensures end { (f.last ≡ true → IsAtEnd (R.remaining from.old))
+        → result.last ≡ true → result.failed ≡ false → IsAtEnd (R.remaining from.new) }
 {
     let have = f.have;
     let last = f.last;

@@ -1,13 +1,18 @@
 // Reads a replay file, the one that its argument names or standard input, and prints what the card answers. Here bytes are moved and no
-// more: what is printed is `tape::pieces::play_on`'s, whatever the pieces are in which the file is read.
+// more: what is printed is `tape::pieces::play_on`'s, and so the file's printout, whatever the pieces are in which it is read.
 #![tactic(auto)]
 
 mod feed;
 mod output;
 
+ghost use Rattle.std.specs.Prelude.{◌≡◌, true, ◌^◌, ◌<◌, IfSome, length};
+ghost use Rattle.std.specs.Io.KnownBytes.{Appends};
+ghost use Rattle.tape.specs.Printout.{printout};
+ghost use Rattle.tape.specs.declared.Stage.TheVariants.{Ended};
+
 use crate::feed::{fill, nothing, to_front};
 use std::env::FillError;
-use std::io::Read;
+use std::io::{Read, Write};
 use std::rt::{Env, Files};
 use std::{fs, io, str};
 use table::MAX_SETS;
@@ -67,7 +72,9 @@ fn named<R: Files + Input + Eprint>(rt: &R, path: &[u8]) -> Option<Source<R::Fil
     }
 }
 
-fn has_ended(s: Stage) -> bool {
+fn has_ended(s: Stage) -> bool
+    ensures { result ≡ true → s ≡ Ended }
+{
     match s {
         Stage::Sets => false,
         Stage::Items => false,
@@ -75,34 +82,40 @@ fn has_ended(s: Stage) -> bool {
     }
 }
 
-// A proved loop has to end, and nothing says that a file does: so it takes no more turns than a number that no run uses up.
-fn replay(rt: &(impl Print + Eprint), from: &mut impl Read) {
+// Whether a whole tape was read and all its text written, which is then its printout. A proved loop has to end, and nothing says that a
+// file does: so it takes no more turns than a number that no run uses up.
+fn replay<R: Read, W: Write>(rt: &impl Eprint, from: &mut R, to: &mut W) -> bool
+    ensures { result ≡ true → IfSome (R.remaining from.old)
+        (λ file. length file < 2 ^ 64 → Appends (W.contents to.old) (W.contents to.new) (printout file)) }
+{
     let mut buf = [0u8; SIZE];
     let mut out = [0u8; SIZE];
     let mut bodies = [0u8; BODIES];
     let mut table = [0u64; WORDS];
     let mut p = at_start();
     let mut f = nothing();
+    let mut wrote = true;
     for _ in 0..u64::MAX {
         f = fill(rt, from, &mut buf, f);
         let failed = f.failed;
         if failed {
-            return;
+            return false;
         }
         let have = f.have;
         let last = f.last;
         p = play_on(&mut table, &mut bodies, &mut out, &buf[0..have], last, p);
-        output::write(rt, &out, p.len);
+        wrote = wrote & output::write(rt, to, &out, p.len);
         let stage = p.stage;
         if has_ended(stage) {
-            return;
+            return wrote;
         }
         f.have = to_front(&mut buf, p.used, have);
     }
+    false
 }
 
 fn main(rt: HostRuntime) {
     if let Some(mut from) = input(&rt) {
-        replay(&rt, &mut from);
+        replay(&rt, &mut from, &mut io::writer(&rt));
     }
 }

@@ -1,11 +1,19 @@
-// Standard output.
-ghost use Rattle.std.specs.Prelude.{◌≤◌, length};
+// What is written.
+ghost use Rattle.std.specs.Prelude.{◌≡◌, true, ◌≤◌, length, take};
+ghost use Rattle.std.specs.Io.KnownBytes.{Appends};
 
-// The first n bytes. A write that fails is said on standard error.
-pub fn write(rt: &(impl Print + Eprint), out: &[u8], n: usize)
+use std::io::Write;
+
+// The first n bytes; whether all went. A write that fails is said on standard error.
+pub fn write<W: Write>(rt: &impl Eprint, to: &mut W, out: &[u8], n: usize) -> bool
     requires { n ≤ length out.now }
+    ensures { result ≡ true → Appends (W.contents to.old) (W.contents to.new) (take n out.now) }
 {
-    if let Err(error) = rt.write_all(&out[0..n]) {
-        let _ = eprintln!(rt; "write: {error}");
+    match to.write_all(&out[0..n]) {
+        Ok(()) => true,
+        Err(error) => {
+            let _ = eprintln!(rt; "write: {error}");
+            false
+        }
     }
 }
