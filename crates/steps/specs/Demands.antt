@@ -1,8 +1,9 @@
 -- What is promised of the step: demand 1 as laws for all items; demand 3 over any list of items; and of demand 2, that features
 -- hand back what they store.
--- Each is proved under its name, in snake case (`carried_out_lem`, since a definition is called so): demand 1 in proofs/ExactRefusals.antt and proofs/OnWords.antt, what
--- features store in proofs/StoredFeatures.antt, demand 3 in proofs/NamedItems.antt, proofs/OwnHistory.antt and proofs/AggregateLog.antt,
--- and what holds of the lent words in proofs/OnWords.antt and proofs/WordsStay.antt.
+-- Each is proved under its name, in snake case, but for `carried_out_lem`, since a definition has the plain name: demand 1 in
+-- proofs/ExactRefusals.antt and proofs/OnWords.antt, what features store in proofs/StoredFeatures.antt, demand 3 in
+-- proofs/NamedItems.antt, proofs/OwnHistory.antt and proofs/AggregateLog.antt, and what holds of the lent words in proofs/OnWords.antt
+-- and proofs/WordsStay.antt.
 -- But for page 0Bh, the features and which items name a set nothing here looks at a single item: an item names one set (`The`), goes
 -- to every set (`Everybody`) or to none (`Nobody`).
 use Rattle.std.specs.Prelude.{◌≡◌, Bool, true, false, not, ◌&&◌, ◌||◌, List, [], ◌∷◌, ◌++◌, map, ℕ, ◌*◌, eqb, length, if◌then◌else◌}
