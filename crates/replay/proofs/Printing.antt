@@ -114,17 +114,16 @@ module _ (held₀ held : Option (List ℕ)) (wrote : Bool) (p : Progress) (words
 
   -- a read, a call and a write
   pub turn :
-      (r now new held' : Option (List ℕ)) (b₀ b : List ℕ) (n m m' : ℕ) (w : Bool) (out₀ : List ℕ) (last : Bool) (q : Progress)
-      (words' kept' out : List ℕ) → n ≤ m → take n b ≡ take n b₀ → m' ≡ m → Plays r now held₀ held wrote p words kept (take n b₀)
-      → Consumes now new (drop n (take m b)) → PlayedOn p words kept out₀ (take m' b) last q words' kept' out
+      (r now new held' : Option (List ℕ)) (b₀ b : List ℕ) (n m : ℕ) (w : Bool) (out₀ : List ℕ) (last : Bool) (q : Progress)
+      (words' kept' out : List ℕ) → n ≤ m → take n b ≡ take n b₀ → Plays r now held₀ held wrote p words kept (take n b₀)
+      → Consumes now new (drop n (take m b)) → PlayedOn p words kept out₀ (take m b) last q words' kept' out
       → (last ≡ true → IsAtEnd new) → (w ≡ true → Appends held held' (take q.len out))
       → Plays r new held₀ held' (wrote && w) q words' kept' (drop q.used (take m b))
-  turn r now new held' b₀ b n m m' w out₀ last q words' kept' out h same e k eaten c end f =
+  turn r now new held' b₀ b n m w out₀ last q words' kept' out h same k eaten c end f =
       let fed = feeds r now new (take n b₀) (drop n (take m b)) k eaten in
       let piece : take n b₀ ++ drop n (take m b) ≡ take m b = piece_of b₀ b n m h same in
       let there = subst (λ (l : List ℕ). Plays r new held₀ held wrote p words kept l) piece fed in
-      let call = subst (λ (x : ℕ). PlayedOn p words kept out₀ (take x b) last q words' kept' out) e c in
-      plays r new held' w (take m b) out₀ last q words' kept' out there call end f
+      plays r new held' w (take m b) out₀ last q words' kept' out there c end f
 
 -- what is moved to the front is what is not used
 pub fronted :

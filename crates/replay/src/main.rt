@@ -103,7 +103,7 @@ fn replay<R: Read, W: Write>(rt: &impl Eprint, from: &mut R, to: &mut W) -> bool
         }
         let have = f.have;
         let last = f.last;
-        p = play_on(&mut table, &mut bodies, &mut out, &buf[0..have], last, p);
+        p = play_on(&mut table, &mut bodies, &mut out, &buf[..have], last, p);
         wrote = wrote & output::write(rt, to, &out, p.len);
         let stage = p.stage;
         if has_ended(stage) {

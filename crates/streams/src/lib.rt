@@ -10,12 +10,13 @@
 // answer buffer. All numbers are little-endian.
 #![tactic(auto)]
 
-ghost use Rattle.std.specs.Prelude.{◌≡◌, true, ◌+◌, ◌*◌, ◌≤◌, length, take};
+ghost use Rattle.std.specs.Prelude.{◌≡◌, true, [], ◌&&◌, ◌+◌, ◌*◌, ◌≤◌, if◌then◌else◌, length, nat_le, take};
 ghost use Rattle.std.specs.Io.KnownBytes.{Appends, Consumes};
 ghost use Rattle.octets.specs.Numbers.{number_at};
 ghost use Rattle.octets.specs.Words.{word_size};
 ghost use Rattle.streams.specs.Calls.{head_size, word_bytes, reply_bytes};
 
+use octets::numbers::{short, word};
 use octets::words::{words_in, words_out};
 use std::io::{Read, Write};
 
@@ -25,7 +26,7 @@ const REPLY: usize = 14;
 
 // The number in some bytes of a head; 0 where they are not there.
 pub fn number(head: &[u8; HEAD], at: usize, width: usize) -> u64
-    ensures { at + width ≤ head_size → width ≤ word_size → result ≡ number_at head.now at width }
+    ensures { result ≡ (if nat_le (at + width) head_size && nat_le width word_size then number_at head.now at width else 0) }
 {
     if at <= HEAD {
         if width <= 8 {
@@ -53,10 +54,10 @@ pub fn sizes_in(head: &[u8; HEAD]) -> Sizes
     ensures given { result.«data» ≡ number_at head.now 14 2 }
 {
     Sizes {
-        table: number(head, 8, 2) as usize,
-        answer: number(head, 10, 2) as usize,
-        command: number(head, 12, 2) as usize,
-        data: number(head, 14, 2) as usize,
+        table: short(head, 8) as usize,
+        answer: short(head, 10) as usize,
+        command: short(head, 12) as usize,
+        data: short(head, 14) as usize,
     }
 }
 
@@ -64,24 +65,24 @@ pub fn sizes_in(head: &[u8; HEAD]) -> Sizes
 pub fn set_in(head: &[u8; HEAD]) -> u16
     ensures { result ≡ number_at head.now 2 2 }
 {
-    (number(head, 2, 2) % 65536) as u16
+    short(head, 2)
 }
 
 pub fn count_in(head: &[u8; HEAD]) -> u16
     ensures { result ≡ number_at head.now 4 2 }
 {
-    (number(head, 4, 2) % 65536) as u16
+    short(head, 4)
 }
 
 pub fn time_in(head: &[u8; HEAD]) -> u32
     ensures { result ≡ number_at head.now 4 4 }
 {
-    (number(head, 4, 4) % 4294967296) as u32
+    word(head, 4)
 }
 
 // The first n of a buffer; none where there are fewer.
 pub fn part<'a>(buf: &'a [u8], n: usize) -> &'a [u8]
-    ensures { n ≤ length buf.now → result.now ≡ take n buf.now }
+    ensures { result.now ≡ (if nat_le n (length buf.now) then take n buf.now else []) }
 {
     if n <= buf.len() {
         return &buf[0..n];
@@ -90,7 +91,7 @@ pub fn part<'a>(buf: &'a [u8], n: usize) -> &'a [u8]
 }
 
 pub fn part_mut<'a>(buf: &'a mut [u8], n: usize) -> &'a mut [u8]
-    ensures { n ≤ length buf.old → result.now ≡ take n buf.old }
+    ensures { result.now ≡ (if nat_le n (length buf.old) then take n buf.old else []) }
 {
     if n <= buf.len() {
         return &mut buf[0..n];
@@ -99,7 +100,7 @@ pub fn part_mut<'a>(buf: &'a mut [u8], n: usize) -> &'a mut [u8]
 }
 
 pub fn words_part<'a>(words: &'a mut [u64], n: usize) -> &'a mut [u64]
-    ensures { n ≤ length words.old → result.now ≡ take n words.old }
+    ensures { result.now ≡ (if nat_le n (length words.old) then take n words.old else []) }
 {
     if n <= words.len() {
         return &mut words[0..n];
