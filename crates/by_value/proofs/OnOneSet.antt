@@ -12,7 +12,7 @@ use Rattle.octets.proofs.Runs.{padded_whole}
 use Rattle.octets.proofs.Pages.{length_place}
 use Rattle.record.specs.declared.Record.{Record}
 use Rattle.record.specs.Event.{newly_listed}
-use Rattle.replies.specs.declared.Notice.{Notice}
+use Rattle.replies.specs.Answers.{Notice}
 use Rattle.replies.specs.declared.Reply.{Reply}
 use Rattle.replies.specs.Answers.{Answer, answered, refused, refusing, giving, beside_of, Replied}
 use Rattle.replies.proofs.Answering.{granting, refused_reply, with_notice}

@@ -8,7 +8,7 @@ use native.Mathlib.Numerals.{add-one}
 use Rattle.record.specs.declared.Slot.{Slot}
 use Rattle.record.specs.declared.Record.{Record}
 use Rattle.record.specs.Event.{newly_listed}
-use Rattle.replies.specs.declared.Notice.{Notice}
+use Rattle.replies.specs.Answers.{Notice}
 use Rattle.desk.specs.Desk.{settle}
 use Rattle.desk.specs.Words.{desk_legal}
 use Rattle.table.specs.declared.Entry.{Entry}

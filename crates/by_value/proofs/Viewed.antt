@@ -8,8 +8,8 @@ use lib.Dec.{eqb}
 use lib.ListN.{length}
 use lib.Seq.{sets}
 use Rattle.std.specs.Prelude.{if◌then◌else◌}
-use Rattle.replies.specs.declared.Notice.{Notice}
-use Rattle.replies.specs.declared.Notice.TheVariants.{Unsent}
+use Rattle.replies.specs.Answers.{Notice}
+use Rattle.std.specs.Prelude.{None}
 use Rattle.replies.specs.declared.Reply.{Reply}
 use Rattle.replies.specs.Status.{first_of}
 use Rattle.replies.specs.Answers.{saying, answered, refused, refusing, giving, beside_of, Replied}
@@ -80,20 +80,20 @@ module _ (ws : List ℕ) (i : Item) (k : Kind) (c : Command) (given : ℕ) (befo
 
 lifts_tells :
     (ws vs : List ℕ) → DeskThere ws → (b : Bool) → vs ≡ (if not b then with_desk ws (lifted (desk_at ws)) else ws)
-    → Tells ws (settle false (if b then desk_at ws else lifted (desk_at ws))) vs Unsent
+    → Tells ws (settle false (if b then desk_at ws else lifted (desk_at ws))) vs None
 lifts_tells ws vs t true h = rw h (quiet_tells ws t)
 lifts_tells ws vs t false h = record { desk = h; sent = refl }
 
 module _ (ws : List ℕ) (i : Item) (c : Command) (given : ℕ) (before : List ℕ) (m : meaning i ≡ Nobody (viewed ReadAggregate c given (length before)))
     (e : legal_table ws ≡ true) (s : ℕ) (es : s ≡ view_status ReadAggregate c given (length before) ws) (bytes : List ℕ) (y x : Reply) (buffer vs : List ℕ)
-    (eb : bytes ≡ asked_of ReadAggregate c (aggregate_of c (card_of ws))) (p : Replied (answered s 0 bytes) before y buffer) (ex : x ≡ beside_of y Unsent)
+    (eb : bytes ≡ asked_of ReadAggregate c (aggregate_of c (card_of ws))) (p : Replied (answered s 0 bytes) before y buffer) (ex : x ≡ beside_of y None)
     (ev : vs ≡ (if eqb s 0 && not (retain c) then with_desk ws (lifted (desk_at ws)) else ws)) where
   reply_is : Replied (answered s 0 bytes) before x buffer
-  reply_is = rw ex (with_notice _ before buffer y Unsent p)
+  reply_is = rw ex (with_notice _ before buffer y None p)
 
   by_status : (b : Bool) → eqb s 0 ≡ b → Answered ws i before x vs buffer
   by_status true t =
-      viewed_done ws i ReadAggregate c given before m e s es vs Unsent x buffer (eqb-true s 0 t)
+      viewed_done ws i ReadAggregate c given before m e s es vs None x buffer (eqb-true s 0 t)
       (lifts_tells ws vs (desk_there ws (legal_known ws e)) (retain c) (rw t at ev)) (rw (t, eb) at reply_is) (rw ex)
   by_status false t =
       let f = one_outcome (refused s) before buffer before x (refusing s) (rw t at reply_is) (refused_reply s before) (rw ex) in
@@ -111,7 +111,7 @@ pub identified :
     → s ≡ 0 → page ≡ set_list_of c (card_of ws) → n ≡ length page → n ≤ length before → buffer ≡ sets before 0 page → x ≡ giving 0 n
     → Answered ws i before x ws buffer
 identified ws i c given before m e s es n page x buffer z ep en h eb ex =
-    viewed_done ws i Identify c given before m e s es ws Unsent x buffer z (quiet_tells ws (desk_there ws (legal_known ws e)))
+    viewed_done ws i Identify c given before m e s es ws None x buffer z (quiet_tells ws (desk_there ws (legal_known ws e)))
     (rw (ex, ← ep) (granting n 0 page before buffer en h eb)) (rw ex)
 
 -- ---- Get Features 0Bh: dword 0 alone
@@ -121,7 +121,7 @@ pub notices_read :
     → legal_table ws ≡ true → (s : ℕ) → s ≡ view_status GetNotices c given (length before) ws → (on : Bool) (w : ℕ) (x : Reply)
     → s ≡ 0 → on ≡ (desk_at ws).on → w ≡ notices_no on → x ≡ giving w 0 → Answered ws i before x ws before
 notices_read ws i c given before m e s es on w x z eo ew ex =
-    viewed_done ws i GetNotices c given before m e s es ws Unsent x before z (quiet_tells ws (desk_there ws (legal_known ws e)))
+    viewed_done ws i GetNotices c given before m e s es ws None x before z (quiet_tells ws (desk_there ws (legal_known ws e)))
     (rw (ex, ew, eo) (no_data _ before)) (rw ex)
 
 -- ---- which command it is

@@ -4,8 +4,8 @@ use Rattle.record.specs.declared.Record.{Record}
 use Rattle.record.specs.Event.{settled, newly_listed}
 use Rattle.desk.specs.Desk.{Told, settle}
 use Rattle.replies.specs.Status.{first_of}
-use Rattle.replies.specs.declared.Notice.{Notice}
-use Rattle.replies.specs.declared.Notice.TheVariants.{Unsent}
+use Rattle.replies.specs.Answers.{Notice}
+use Rattle.std.specs.Prelude.{None}
 use Rattle.replies.specs.declared.Reply.{Reply}
 use Rattle.replies.specs.Answers.{Answer, refused, Replied}
 use Rattle.table.specs.Layout.{words_of, record_of}
@@ -38,7 +38,7 @@ table_on ws slot k c given room r =
     else ws
 
 abbrev pub notice_on : List ℕ → Kind → Command → List ℕ → ℕ → Record → Notice
-notice_on ws k c given room r = if eqb (status_on k c (length given) room r) 0 then (told_on ws k c given r).notice else Unsent
+notice_on ws k c given room r = if eqb (status_on k c (length given) room r) 0 then (told_on ws k c given r).notice else None
 
 pub record OnSet (ws : List ℕ) (slot : ℕ) (k : Kind) (c : Command) (given before : List ℕ) (r : Reply) (words buffer : List ℕ) : Type 0 where
   pub table : words ≡ table_on ws slot k c given (length before) (record_of (row ws slot))

@@ -10,8 +10,8 @@ use lib.Seq.{sets}
 use Rattle.std.specs.Prelude.{if◌then◌else◌}
 use Rattle.octets.specs.Octets.{AllBytes}
 use Rattle.octets.specs.Words.{word_size}
-use Rattle.replies.specs.declared.Notice.{Notice}
-use Rattle.replies.specs.declared.Notice.TheVariants.{Unsent}
+use Rattle.replies.specs.Answers.{Notice}
+use Rattle.std.specs.Prelude.{None}
 use Rattle.replies.specs.declared.Reply.{Reply}
 use Rattle.replies.specs.Answers.{answered, done, beside_of, Replied}
 use Rattle.desk.specs.Desk.{Told, settle, lifted}
@@ -228,7 +228,7 @@ module _ (region : List ℕ) (i : Item) (c : Command) (given : ℕ) (before : Li
     (e : legal_table (table_in region) ≡ true) (s : ℕ) (es : s ≡ view_status ReadAggregate c given (length before) (table_in region)) (bytes : List ℕ) where
   pub aggregate_out :
       (y x : Reply) (buffer after : List ℕ) → bytes ≡ asked_of ReadAggregate c (aggregate_of c (card_of (table_in region)))
-      → Replied (answered s 0 bytes) before y buffer → x ≡ beside_of y Unsent → AllBytes region
+      → Replied (answered s 0 bytes) before y buffer → x ≡ beside_of y None → AllBytes region
       → after ≡ (if eqb s 0 && not (retain c) then table_out region (with_desk (table_in region) (lifted (desk_at (table_in region)))) else region)
       → AnswerAtC region i before x after buffer
   aggregate_out y x buffer after eb p ex each ev =

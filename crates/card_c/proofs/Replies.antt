@@ -14,8 +14,8 @@ use Rattle.octets.specs.Octets.{bytes_of, number_of, padded}
 use Rattle.octets.specs.Pages.{place}
 use Rattle.octets.proofs.Runs.{sets_join, sets_over}
 use Rattle.octets.proofs.PutAndGet.{get_put, get_other}
-use Rattle.replies.specs.declared.Notice.{Notice}
-use Rattle.replies.specs.declared.Notice.TheVariants.{Unsent, To}
+use Rattle.replies.specs.Answers.{Notice}
+use Rattle.std.specs.Prelude.{None, Some}
 use Rattle.replies.specs.Answers.{told_no, to_no, notice_no}
 use Rattle.desk.specs.Desk.{identifier_maximum}
 use Rattle.steps.proofs.HeldWords.{notice_back}
@@ -83,10 +83,10 @@ module _ (r : List ℕ) (dword len : ℕ) (n : Notice) where
       let e : min (length r) reply_size ≡ length r = omega arith in
       rw (e, page_is dword len n) (sym (padded_take (numbers dword len n) 0 (length r) notice_at h))
 
-  none : length r ≤ notice_at → silenced (sets r 0 (part n)) ≡ sets r 0 (part Unsent)
+  none : length r ≤ notice_at → silenced (sets r 0 (part n)) ≡ sets r 0 (part None)
   none h =
       let z : min (length (sets r 0 (part n)) - notice_at) notice_size ≡ 0 = omega (arith, said_long n) in
-      rw z (ap (sets r 0) (short n h ∙ sym (short Unsent h)))
+      rw z (ap (sets r 0) (short n h ∙ sym (short None h)))
 
   -- some are
   abbrev more : ℕ
@@ -97,12 +97,12 @@ module _ (r : List ℕ) (dword len : ℕ) (n : Notice) where
       let e : min (length r) reply_size ≡ suc (suc (suc (suc (suc (suc (suc (suc more))))))) = omega arith in
       rw e (ap (λ (page : List ℕ). padded page 0 (suc (suc (suc (suc (suc (suc (suc (suc more))))))))) (page_is dword len n))
 
-  zeros : padded (numbers dword len Unsent) notice_at more ≡ replicate more 0
+  zeros : padded (numbers dword len None) notice_at more ≡ replicate more 0
   zeros =
       let h : more ≤ notice_size = omega arith in
-      sym (padded_take (numbers dword len Unsent) notice_at more notice_size h) ∙ take_zeros more notice_size h
+      sym (padded_take (numbers dword len None) notice_at more notice_size h) ∙ take_zeros more notice_size h
 
-  some : notice_at ≤ length r → silenced (sets r 0 (part n)) ≡ sets r 0 (part Unsent)
+  some : notice_at ≤ length r → silenced (sets r 0 (part n)) ≡ sets r 0 (part None)
   some h =
       let ys = padded (numbers dword len n) notice_at more in
       let z : min (length (sets r 0 (part n)) - notice_at) notice_size ≡ more = omega (arith, said_long n) in
@@ -111,13 +111,13 @@ module _ (r : List ℕ) (dword len : ℕ) (n : Notice) where
       ∙ ap (λ (s : List ℕ). sets s notice_at (replicate more 0)) (sym (sets_join front ys r 0))
       ∙ sets_over ys (replicate more 0) (sets r 0 front) notice_at (length_padded (numbers dword len n) notice_at more ∙ sym (length-replicate more 0))
       ∙ sets_join front (replicate more 0) r 0
-      ∙ ap (sets r 0) (ap (λ (s : List ℕ). front ++ s) (sym zeros) ∙ sym (long Unsent h)))
+      ∙ ap (sets r 0) (ap (λ (s : List ℕ). front ++ s) (sym zeros) ∙ sym (long None h)))
 
-  by_room : (b : Bool) → leb notice_at (length r) ≡ b → silenced (sets r 0 (part n)) ≡ sets r 0 (part Unsent)
+  by_room : (b : Bool) → leb notice_at (length r) ≡ b → silenced (sets r 0 (part n)) ≡ sets r 0 (part None)
   by_room true e = some (leb-true notice_at (length r) e)
   by_room false e = none (omega (arith, leb-false notice_at (length r) e))
 
-  pub notice_left_out : silenced (sets r 0 (part n)) ≡ sets r 0 (part Unsent)
+  pub notice_left_out : silenced (sets r 0 (part n)) ≡ sets r 0 (part None)
   notice_left_out = by_room (leb notice_at (length r)) refl
 
   -- ---- the notice read back, where there is room for it
@@ -139,8 +139,8 @@ module _ (r : List ℕ) (dword len : ℕ) (n : Notice) where
     said_is = ap (sets r 0) (part_whole dword len n (length r) h) ∙ sym (whole r dword len n)
 
     told_below : (n : Notice) → told_no n < 65536
-    told_below Unsent = lit< tt
-    told_below (To id) = lit< tt
+    told_below None = lit< tt
+    told_below (Some id) = lit< tt
 
     told_back : number_of (octet.part (sets r 0 (part n)) notice_at 2) ≡ told_no n
     told_back =

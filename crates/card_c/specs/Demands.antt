@@ -4,7 +4,7 @@
 use Rattle.std.specs.Prelude.{◌≡◌, false, List, ℕ, length}
 use Rattle.std.proofs.lemmas.List.Edits.{sets}
 use Rattle.octets.specs.Octets.{AllBytes}
-use Rattle.replies.specs.declared.Notice.TheVariants.{Unsent}
+use Rattle.std.specs.Prelude.{None}
 use Rattle.steps.specs.Items.{Item}
 use Rattle.steps.specs.Rows.{carried_out}
 use Rattle.card_c.specs.Entries.{SetUpAtC, AnsweredAtC, reply_part}
@@ -17,7 +17,7 @@ abbrev pub RefusedItem : Type 0
 RefusedItem =
     (region : List ℕ) (i : Item) (before reply₀ : List ℕ) (number : ℕ) (after buffer said : List ℕ)
     → AllBytes region → AnsweredAtC region i before reply₀ number after buffer said → carried_out number ≡ false
-    → (after ≡ region) × (buffer ≡ before) × (said ≡ sets reply₀ 0 (reply_part 0 0 Unsent (length reply₀)))
+    → (after ≡ region) × (buffer ≡ before) × (said ≡ sets reply₀ 0 (reply_part 0 0 None (length reply₀)))
 
 -- ---- 01: "Any two outcomes allowed by one statement are shown to coincide"
 

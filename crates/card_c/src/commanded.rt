@@ -157,7 +157,7 @@ fn answer_aggregate(
         let n = needs_out(Kind::ReadAggregate, c) as usize;
         let reply = replies::hand_out(status, 0, &page, from, n, answer);
         lift_if(region, (status == 0) & !retains(c));
-        beside(reply, Notice::Unsent)
+        beside(reply, None)
     } else {
         refuse(BAD_TABLE)
     }

@@ -10,7 +10,7 @@ use lib.Dec.{leb}
 use lib.ListN.{length}
 use Rattle.std.specs.Prelude.{if◌then◌else◌}
 use Rattle.octets.proofs.JoinedTests.{both, together}
-use Rattle.replies.specs.declared.Notice.TheVariants.{To}
+use Rattle.std.specs.Prelude.{Some}
 use Rattle.replies.specs.Answers.{told_of}
 use Rattle.desk.specs.Desk.{Desk, desk_of, Told, ready, quiet, send, settle, requests_maximum, all_identifiers, legal_desk}
 use Rattle.desk.proofs.LegalDesks.{fine}
@@ -24,7 +24,7 @@ pub record Sent (d : Desk) : Type 0 where
   pub raised : d.flag ≡ true
   pub on : d.on ≡ true
   pub unmasked : d.masked ≡ false
-  pub is : send d ≡ record { desk = desk_of d.on true false ids; notice = To id }
+  pub is : send d ≡ record { desk = desk_of d.on true false ids; notice = Some id }
 
 pub record Unsent' (d : Desk) : Type 0 where
   pub why : d.flag && ready d ≡ false

@@ -1,7 +1,7 @@
 -- What is done to a desk, done to its words: for the functions that hold it so. proofs/AtDesk.antt says that it is the same.
 use Rattle.std.specs.Prelude.{Bool, ◌&&◌, ◌||◌, List, [], ◌∷◌, ℕ, ◌+◌, ◌-◌, ◌%◌, ◌^◌, leb, ltb, eqb, get_or, set, if◌then◌else◌}
 use Rattle.octets.specs.Choice.{bit}
-use Rattle.replies.specs.declared.Notice.TheVariants.{Unsent, To}
+use Rattle.std.specs.Prelude.{None, Some}
 use Rattle.desk.specs.Desk.{requests_maximum}
 use Rattle.desk.specs.Words.{on_word, masked_word, flag_word, count_word, first_waiting, place_legal}
 use Rattle.desk.specs.declared.Settled.{Settled}
@@ -33,12 +33,12 @@ abbrev pub served : List ℕ → Settled
 served a =
     record {
       words = get_or a on_word 0 ∷ 1 ∷ 0 ∷ (get_or a count_word 0 - 1) ∷ get_or a (first_waiting + 1) 0 ∷ get_or a (first_waiting + 2) 0 ∷ get_or a (first_waiting + 3) 0 ∷ 0 ∷ [];
-      notice = To (get_or a first_waiting 0 % 2 ^ 16);
+      notice = Some (get_or a first_waiting 0 % 2 ^ 16);
     }
 
 -- the flag remembers
 abbrev pub remembered : Bool → List ℕ → Settled
-remembered new a = record { words = set a flag_word (bit (eqb (get_or a flag_word 0) 1 || new)); notice = Unsent }
+remembered new a = record { words = set a flag_word (bit (eqb (get_or a flag_word 0) 1 || new)); notice = None }
 
 abbrev pub settled_words : Bool → List ℕ → Settled
 settled_words new a = if sends new a then served a else remembered new a

@@ -1,7 +1,7 @@
 -- 02, "Wake the host": what the whole card keeps beside its sets, so that a host need not poll page 0Bh. Nothing here knows of sets.
 use Rattle.std.specs.Prelude.{Bool, true, false, not, ◌&&◌, ◌||◌, List, [], ◌∷◌, ◌++◌, ℕ, leb, length}
-use Rattle.replies.specs.declared.Notice.{Notice}
-use Rattle.replies.specs.declared.Notice.TheVariants.{Unsent, To}
+use Rattle.replies.specs.Answers.{Notice}
+use Rattle.std.specs.Prelude.{None, Some}
 
 -- whether notices are on (feature 0Bh, bit 12) and whether they are masked; the "one flag" that remembers a notice; and the
 -- identifiers of the requests that wait, the oldest first
@@ -49,13 +49,13 @@ pub record Told : Type 0 where
 
 -- nothing is sent
 abbrev pub quiet : Desk → Told
-quiet d = record { desk = d; notice = Unsent }
+quiet d = record { desk = d; notice = None }
 
 -- "that request completes .., and further notices are masked": the oldest of those that wait, where there is something to tell
 abbrev pub send_by : Bool → Desk → List ℕ → Told
 send_by false d waiting = quiet d
 send_by true d [] = quiet d
-send_by true d (id ∷ ids) = record { desk = desk_of d.on true false ids; notice = To id }
+send_by true d (id ∷ ids) = record { desk = desk_of d.on true false ids; notice = Some id }
 
 abbrev pub send : Desk → Told
 send d = send_by (d.flag && d.on && not d.masked) d d.waiting

@@ -132,7 +132,7 @@ fn served(a: [u64; DESK]) -> Settled
 {
     let id = (a[4] % 0x10000) as u16;
     let words = [a[0], 1, 0, a[3] - 1, a[5], a[6], a[7], 0];
-    let notice = Notice::To(id);
+    let notice = Some(id);
     Settled {
         words: words,
         notice: notice,
@@ -145,7 +145,7 @@ fn remembered(a: [u64; DESK], new: bool) -> Settled
 {
     let mut b = a;
     b[2] = bit_of((a[2] == 1) | new);
-    let notice = Notice::Unsent;
+    let notice = None;
     Settled {
         words: b,
         notice: notice,

@@ -13,7 +13,7 @@ use Rattle.octets.proofs.Below.{sets_below}
 use Rattle.octets.proofs.Runs.{sets_comm, part_other}
 use Rattle.octets.proofs.WordBytes.{length_put_words}
 use Rattle.octets.proofs.InPlace.{put_bytes, put_over, words_comm, words_before}
-use Rattle.replies.specs.declared.Notice.{Notice}
+use Rattle.replies.specs.Answers.{Notice}
 use Rattle.record.specs.declared.Record.{Record}
 use Rattle.desk.specs.Desk.{Desk, raised_by, settle, legal_desk}
 use Rattle.desk.specs.Words.{desk_size, desk_words, desk_legal}

@@ -12,7 +12,7 @@ use Rattle.octets.proofs.InPlace.{words_back, words_read, word_of, first_words, 
 use Rattle.table.specs.Layout.{row_words}
 use Rattle.table.specs.Table.{Tells, row_start, row, put}
 use Rattle.table.proofs.Slots.{length_row_lem}
-use Rattle.replies.specs.declared.Notice.{Notice}
+use Rattle.replies.specs.Answers.{Notice}
 use Rattle.desk.specs.Desk.{Told}
 use Rattle.region.specs.Region.{table_in, table_out, TellsAt}
 

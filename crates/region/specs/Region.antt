@@ -1,7 +1,7 @@
 -- 01: "there the table passes as its words' little-endian bytes"
 use Rattle.std.specs.Prelude.{◌≡◌, Bool, true, false, List, [], ◌∷◌, ℕ, suc, ◌+◌, ◌*◌, ◌/◌, ◌≤◌, length}
 use Rattle.octets.specs.Words.{word_size, words_from, put_words}
-use Rattle.replies.specs.declared.Notice.{Notice}
+use Rattle.replies.specs.Answers.{Notice}
 use Rattle.desk.specs.Desk.{Told}
 use Rattle.record.specs.declared.Record.{Record}
 use Rattle.table.specs.Layout.{words_of, record_of}

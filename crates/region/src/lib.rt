@@ -125,7 +125,7 @@ pub fn settle(bytes: &mut [u8], new: bool) -> Notice
         put_desk(bytes, words);
         return notice;
     }
-    Notice::Unsent
+    None
 }
 
 // A request that arrives.

@@ -10,7 +10,7 @@ use lib.Seq.{sets, length-sets}
 use Rattle.octets.specs.Octets.{padded}
 use Rattle.octets.proofs.Runs.{part_same}
 use Rattle.replies.specs.declared.Reply.{Reply}
-use Rattle.replies.specs.declared.Notice.{Notice}
+use Rattle.replies.specs.Answers.{Notice}
 use Rattle.replies.specs.Answers as answers
 use Rattle.replies.specs.Answers.{Answer, saying, answered, granted, refused, giving, replying, beside_of, Replied}
 

@@ -1,10 +1,12 @@
 -- What is answered, and what the caller's buffer holds then.
-use Rattle.std.specs.Prelude.{◌≡◌, List, [], ◌∷◌, ℕ, ◌-◌, ◌≤◌, eqb, length, take, drop, if◌then◌else◌}
+use Rattle.std.specs.Prelude.{◌≡◌, Option, None, Some, List, [], ◌∷◌, ℕ, ◌-◌, ◌≤◌, eqb, length, take, drop, if◌then◌else◌}
 use Rattle.std.proofs.lemmas.List.Edits.{sets}
 use Rattle.replies.specs.Numbers.{success, request_waits}
-use Rattle.replies.specs.declared.Notice.{Notice}
-use Rattle.replies.specs.declared.Notice.TheVariants.{Unsent, To}
 use Rattle.replies.specs.declared.Reply.{Reply}
+
+-- what may go beside an answer: nothing, or a notice, which completes the waiting request with this identifier
+abbrev pub Notice : Type 0
+Notice = Option ℕ
 
 -- status, dword 0 and data; no data is the empty list
 pub record Answer : Type 0 where
@@ -35,11 +37,11 @@ replying status dword len notice = record { status = status; dword = dword; len 
 
 -- to a refusal
 abbrev pub refusing : ℕ → Reply
-refusing status = replying status 0 0 Unsent
+refusing status = replying status 0 0 None
 
 -- and to what is carried out, with dword 0 and so many bytes of data
 abbrev pub giving : ℕ → ℕ → Reply
-giving dword len = replying success dword len Unsent
+giving dword len = replying success dword len None
 
 -- with nothing to say
 abbrev pub done : Reply
@@ -47,7 +49,7 @@ done = giving 0 0
 
 -- to a request that waits
 abbrev pub awaiting : Reply
-awaiting = replying request_waits 0 0 Unsent
+awaiting = replying request_waits 0 0 None
 
 -- a reply with this notice beside it
 abbrev pub beside_of : Reply → Notice → Reply
@@ -61,24 +63,24 @@ notice_dword = 0x000B0402
 
 -- the identifiers that a notice completes: none, or one
 abbrev pub told_of : Notice → List ℕ
-told_of Unsent = []
-told_of (To id) = id ∷ []
+told_of None = []
+told_of (Some id) = id ∷ []
 
 -- as numbers: whether there is a notice, the request's identifier, and its dword 0; zero where there is none
 abbrev pub told_no : Notice → ℕ
-told_no Unsent = 0
-told_no (To id) = 1
+told_no None = 0
+told_no (Some id) = 1
 
 abbrev pub to_no : Notice → ℕ
-to_no Unsent = 0
-to_no (To id) = id
+to_no None = 0
+to_no (Some id) = id
 
 abbrev pub notice_of : ℕ → ℕ → Notice
-notice_of told to = if eqb told 0 then Unsent else To to
+notice_of told to = if eqb told 0 then None else Some to
 
 abbrev pub notice_no : Notice → ℕ
-notice_no Unsent = 0
-notice_no (To id) = notice_dword
+notice_no None = 0
+notice_no (Some id) = notice_dword
 
 -- ---- the caller's buffer
 

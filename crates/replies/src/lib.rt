@@ -7,16 +7,11 @@ ghost use Rattle.std.specs.Prelude.{◌≡◌, ◌≤◌, length};
 ghost use Rattle.octets.specs.Octets.{padded};
 ghost use Rattle.replies.specs.Status.{first_of, lines_of};
 ghost use Rattle.replies.specs.Answers.{answered, replying, refusing, giving, done, awaiting, beside_of, told_no, to_no, notice_of, notice_no, Replied};
-ghost use Rattle.replies.specs.declared.Notice.{Notice};
 
 use crate::numbers::{REQUEST_WAITS, SUCCESS};
 
 // What may go beside an answer: nothing, or a notice, which completes the waiting request with this identifier.
-#[derive(Clone, Copy)]
-pub enum Notice {
-    Unsent,
-    To(u16),
-}
+pub type Notice = Option<u16>;
 
 // Dword 0 of a notice: read log page 0Bh.
 pub const NOTICE: u32 = 0x000B0402;
@@ -46,13 +41,13 @@ pub fn first(tests: &[bool], numbers: &[u16]) -> u16
 
 // A number and nothing else.
 fn bare(status: u16) -> Reply
-    ensures { result ≡ replying status 0 0 Notice.Unsent }
+    ensures { result ≡ replying status 0 0 None }
 {
     Reply {
         status,
         dword: 0,
         len: 0,
-        notice: Notice::Unsent,
+        notice: None,
     }
 }
 
@@ -70,7 +65,7 @@ pub fn give(dword: u32, len: usize) -> Reply
         status: SUCCESS,
         dword,
         len,
-        notice: Notice::Unsent,
+        notice: None,
     }
 }
 
@@ -104,39 +99,26 @@ pub fn beside(r: Reply, notice: Notice) -> Reply
 pub fn told_no(notice: Notice) -> u16
     ensures { result ≡ told_no notice }
 {
-    match notice {
-        Notice::Unsent => 0,
-        Notice::To(id) => 1,
-    }
+    u16::from(notice.is_some())
 }
 
 pub fn to_no(notice: Notice) -> u16
     ensures { result ≡ to_no notice }
 {
-    match notice {
-        Notice::Unsent => 0,
-        Notice::To(id) => id,
-    }
+    notice.unwrap_or(0)
 }
 
 // And back.
 pub fn notice_of(told: u16, to: u16) -> Notice
     ensures { result ≡ notice_of told to }
 {
-    if told == 0 {
-        Notice::Unsent
-    } else {
-        Notice::To(to)
-    }
+    if told == 0 { None } else { Some(to) }
 }
 
 pub fn notice_no(notice: Notice) -> u32
     ensures { result ≡ notice_no notice }
 {
-    match notice {
-        Notice::Unsent => 0,
-        Notice::To(id) => NOTICE,
-    }
+    notice.map_or(0, |_| NOTICE)
 }
 
 // A refusal, which writes nothing, or n bytes of a page from place `from`: the one way in which data goes out.

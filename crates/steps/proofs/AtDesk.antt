@@ -11,8 +11,8 @@ use borrow.Author.Tests.{eqb-true, eq-eqb, leb-true, leb-false}
 use lib.Dec.{eqb, leb}
 use lib.ListN.{length, set, length-append}
 use Rattle.std.specs.Prelude.{if◌then◌else◌}
-use Rattle.replies.specs.declared.Notice.{Notice}
-use Rattle.replies.specs.declared.Notice.TheVariants.{Unsent, To}
+use Rattle.replies.specs.Answers.{Notice}
+use Rattle.std.specs.Prelude.{None, Some}
 use Rattle.replies.specs.Status.{first_of}
 use Rattle.replies.specs.Answers.{told_of, to_no}
 use Rattle.replies.proofs.Rows.{passed}
@@ -156,8 +156,8 @@ run_legal (i ∷ is) c h = run_legal is (after c i) (desk_kept c i h)
 -- ---- the identifier of a notice has 16 bits
 
 first_small : (n : Notice) (rest ws : List ℕ) → told_of n ++ rest ≡ ws → all_identifiers ws ≡ true → to_no n ≤ identifier_maximum
-first_small Unsent rest ws e h = omega arith
-first_small (To id) rest ws e h = leb-true id identifier_maximum (one_of id rest (ap all_identifiers e ∙ h)).0
+first_small None rest ws e h = omega arith
+first_small (Some id) rest ws e h = leb-true id identifier_maximum (one_of id rest (ap all_identifiers e ∙ h)).0
 
 pub notice_small : (c : Card) (i : Item) → legal_desk c.desk ≡ true → to_no (at_desk c i).notice ≤ identifier_maximum
 notice_small c i h =

@@ -14,7 +14,7 @@ use Rattle.std.specs.Prelude.{if◌then◌else◌}
 use Rattle.octets.proofs.JoinedTests.{both, left_false}
 use Rattle.record.specs.declared.Record.{Record}
 use Rattle.replies.specs.Numbers.{success, invalid_field, unknown_set, too_early, too_short, bad_table}
-use Rattle.replies.specs.declared.Notice.TheVariants.{Unsent}
+use Rattle.std.specs.Prelude.{None}
 use Rattle.record.specs.declared.Attributes.{Attributes}
 use Rattle.record.specs.declared.State.{State}
 use Rattle.replies.specs.Status.{Line, line, first_of}
@@ -308,7 +308,7 @@ refused_buffer ws i before r words buffer n h =
     let d = refused_words ws i n in
     let s = refusal_words ws i in
     let p : Replied (refused s) before r buffer = rw d at h.reply in
-    let n : r.notice ≡ Unsent = rw d at h.notice in
+    let n : r.notice ≡ None = rw d at h.notice in
     let o = one_outcome (refused s) before buffer before r (refusing s) p (refused_reply s before) n in
     (o.0, rw d at h.table, o.1)
 

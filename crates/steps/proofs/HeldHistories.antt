@@ -13,8 +13,8 @@ use Rattle.record.specs.declared.Attributes.{Attributes}
 use Rattle.record.specs.declared.Record.{Record}
 use Rattle.record.specs.Parts.{id_of}
 use Rattle.replies.specs.Numbers.{success}
-use Rattle.replies.specs.declared.Notice.{Notice}
-use Rattle.replies.specs.declared.Notice.TheVariants.{Unsent}
+use Rattle.replies.specs.Answers.{Notice}
+use Rattle.std.specs.Prelude.{None}
 use Rattle.replies.specs.Answers.{Answer, told_of}
 use Rattle.desk.specs.Desk.{Desk, waits}
 use Rattle.table.specs.Card.{Card}
@@ -98,7 +98,7 @@ module _ (H : Holder) (S : Steps H) where
   own_records h cs k r e u f = ap (nth k) (sets_after_lem h cs e u) ∙ by_rules (card_of (H.words h)) (items H cs) k r f
 
   -- what a call hands back, its notice left out
-  left_out : (h : H.Held) (c : Called H) → H.Call h c.lent c.back c.held → H.without c.back ≡ H.shows c.lent (step_words (H.words h) (H.item c.lent)).answer Unsent
+  left_out : (h : H.Held) (c : Called H) → H.Call h c.lent c.back c.held → H.without c.back ≡ H.shows c.lent (step_words (H.words h) (H.item c.lent)).answer None
   left_out h c u = ap H.without (S.said h c.lent c.back c.held u) ∙ S.left_out c.lent _ _
 
   -- the calls that name a set hand back the answers that stand beside their items
@@ -109,7 +109,7 @@ module _ (H : Holder) (S : Steps H) where
   named_back id h (c ∷ cs) e u =
       let ih : map H.without (backs H (naming H id cs)) ≡ shown H (lents H (naming H id cs)) (beside (names id) (items H cs) (trace_words (step_words (H.words h) (H.item c.lent)).table (items H cs)))
       = rw (next h c cs e u) at (named_back id c.held cs (legal_next h c cs e u) u.1) in
-      let plain : H.without c.back ≡ H.shows c.lent (step_words (H.words h) (H.item c.lent)).answer Unsent = left_out h c u.0 in
+      let plain : H.without c.back ≡ H.shows c.lent (step_words (H.words h) (H.item c.lent)).answer None = left_out h c u.0 in
       ⊎_elim
       (λ q. rw q (λ i. plain i ∷ ih i))
       (λ q. rw q ih)
@@ -133,7 +133,7 @@ module _ (H : Holder) (S : Steps H) where
       let b = S.said (last H h cs) d.lent d.back d.held p in
       let s : (answer (run (card_of ws) (items H cs)) i).status ≡ 0 = ap (λ (x : Answer). x.status) (sym a) ∙ sym (S.told d.lent _ _) ∙ sym (ap H.status b) ∙ z in (
         left_out (last H h cs) d p
-            ∙ ap (λ (x : Answer). H.shows d.lent x Unsent) (a ∙ aggregate_log (card_of ws) (items H cs) bytes given room k (not_refused (run (card_of ws) (items H cs)) i s)),
+            ∙ ap (λ (x : Answer). H.shows d.lent x None) (a ∙ aggregate_log (card_of ws) (items H cs) bytes given room k (not_refused (run (card_of ws) (items H cs)) i s)),
         in_order (card_of ws) (items H cs) (sets_known ws (legal_known ws e)),
       )
 
@@ -296,7 +296,7 @@ module _ (H : Holder) (S : Steps H) where
         ∙ ap (λ (x : Item). let C = run (card_of (H.words h)) (x ∷ items H cs) in H.shows d.lent (answer C (H.item d.lent)) (step C (H.item d.lent)).notice) mi
         ∙ ap (λ (x : Item). let C = run (card_of (H.words h)) (i ∷ items H cs) in H.shows d.lent (answer C x) (step C x).notice) mj
 
-    back_last : H.without d.back ≡ H.shows d.lent (answer (run (card_of (H.words h)) (i ∷ items H cs)) j) Unsent
+    back_last : H.without d.back ≡ H.shows d.lent (answer (run (card_of (H.words h)) (i ∷ items H cs)) j) None
     unfolding last_card
     back_last = ap H.without said_last ∙ S.left_out d.lent _ _
 
@@ -310,7 +310,7 @@ module _ (H : Holder) (S : Steps H) where
       let j = command bytes' given' room' in
       let none = subst (λ (x : Card). none_configures x (feature_set (command_in bytes)) (items H cs) ≡ true) (after_first h c cs d i j e u p mi mj zi zj) (none_configures_lem (feature_set (command_in bytes)) c.held cs (legal_next h c cs e u) u.1 n) in
       back_last h c cs d i j e u p mi mj zi zj
-      ∙ ap (λ (x : Answer). H.shows d.lent x Unsent)
+      ∙ ap (λ (x : Answer). H.shows d.lent x None)
       (config_stored (card_of (H.words h)) bytes given room (items H cs) bytes' given' room' each ki (done_first h c cs d i j e u p mi mj zi zj) none kj q (done_last h c cs d i j e u p mi mj zi zj))
 
   pub window_handed : WindowBack H
@@ -319,7 +319,7 @@ module _ (H : Holder) (S : Steps H) where
       let j = command bytes' given' room' in
       let none = subst (λ (x : Card). none_moves x (feature_set (command_in bytes)) (items H cs) ≡ true) (after_first h c cs d i j e u p mi mj zi zj) (none_moves_lem (feature_set (command_in bytes)) c.held cs (legal_next h c cs e u) u.1 n) in
       back_last h c cs d i j e u p mi mj zi zj
-      ∙ ap (λ (x : Answer). H.shows d.lent x Unsent)
+      ∙ ap (λ (x : Answer). H.shows d.lent x None)
       (window_stored (card_of (H.words h)) bytes given room (items H cs) bytes' given' room' ki (done_first h c cs d i j e u p mi mj zi zj) none kj q (done_last h c cs d i j e u p mi mj zi zj))
 
   none_turns_lem :
@@ -340,7 +340,7 @@ module _ (H : Holder) (S : Steps H) where
       let j = command bytes' given' room' in
       let none = subst (λ (x : Card). none_turns x (items H cs) ≡ true) (after_first h c cs d i j e u p mi mj zi zj) (none_turns_lem c.held cs (legal_next h c cs e u) u.1 n) in
       back_last h c cs d i j e u p mi mj zi zj
-      ∙ ap (λ (x : Answer). H.shows d.lent x Unsent)
+      ∙ ap (λ (x : Answer). H.shows d.lent x None)
       (notices_stored (card_of (H.words h)) bytes given room (items H cs) bytes' given' room' ki (done_first h c cs d i j e u p mi mj zi zj) none kj (done_last h c cs d i j e u p mi mj zi zj))
 
   -- ---- notices: what the calls told, lifted and listed is what the items of the card did

@@ -7,8 +7,8 @@ use native.Mathlib.Nat.{sub-zero}
 use lib.ListN.{length}
 use Rattle.octets.specs.Octets.{part}
 use Rattle.octets.proofs.Reading.{within_take}
-use Rattle.replies.specs.declared.Notice.{Notice}
-use Rattle.replies.specs.declared.Notice.TheVariants.{Unsent, To}
+use Rattle.replies.specs.Answers.{Notice}
+use Rattle.std.specs.Prelude.{None, Some}
 use Rattle.replies.specs.Answers.{told_no, to_no, notice_of, cut}
 use Rattle.steps.specs.Holders.{held_words, WordsDemand, held_part, PartDemand, Steps}
 use Rattle.steps.proofs.HeldHistories.{demanded}
@@ -39,8 +39,8 @@ pub words_demand : WordsDemand
 words_demand = demanded held_words words_steps
 
 pub notice_back : (n : Notice) → notice_of (told_no n) (to_no n) ≡ n
-notice_back Unsent = refl
-notice_back (To id) = refl
+notice_back None = refl
+notice_back (Some id) = refl
 
 part_steps : Steps held_part
 part_steps =

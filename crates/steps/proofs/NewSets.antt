@@ -18,7 +18,7 @@ use Rattle.table.specs.Card.{layout_number, header}
 use Rattle.table.specs.Table.{row_start, legal_sets, legal_table, max_sets}
 use Rattle.table.proofs.Written.{Fitting, written_back, written_legal}
 use Rattle.pages.specs.Bodies.{body_size}
-use Rattle.replies.specs.declared.Notice.TheVariants.{Unsent}
+use Rattle.std.specs.Prelude.{None}
 use Rattle.replies.specs.Answers.{granted}
 use Rattle.desk.specs.Desk.{new_desk}
 use Rattle.desk.specs.Words.{desk_words}
@@ -72,7 +72,7 @@ module _ (bytes ws : List ℕ) (w : Well bytes (length ws)) where
   new_table_back = written_back ws (new_card bytes) new_fits
 
 abbrev pub done : List ℕ → List ℕ → Result
-done bytes ws = record { table = new_table bytes ws; answer = granted 0 []; notice = Unsent }
+done bytes ws = record { table = new_table bytes ws; answer = granted 0 []; notice = None }
 
 abbrev pub not_done : List ℕ → ℕ → Result
 not_done ws s = unchanged ws s

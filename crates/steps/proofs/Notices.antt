@@ -11,8 +11,8 @@ use lib.ListN.{length}
 use Rattle.std.specs.Prelude.{if◌then◌else◌}
 use Rattle.octets.proofs.JoinedTests.{both, together}
 use Rattle.replies.specs.Numbers.{success, request_waits}
-use Rattle.replies.specs.declared.Notice.{Notice}
-use Rattle.replies.specs.declared.Notice.TheVariants.{Unsent, To}
+use Rattle.replies.specs.Answers.{Notice}
+use Rattle.std.specs.Prelude.{None, Some}
 use Rattle.replies.specs.Answers.{granted, told_of}
 use Rattle.desk.specs.Desk.{Desk, turned, waits, ready, raised_by, legal_desk}
 use Rattle.desk.proofs.Sending.{Sent, Unsent', sent, send_on, oldest, unserved}
@@ -173,11 +173,11 @@ not_both b p q = false≢true (sym q ∙ p)
 -- what is sent
 record Sending (c : Card) (i : Item) : Type 0 where
   what : ℕ
-  notice : (at_desk c i).notice ≡ To what
+  notice : (at_desk c i).notice ≡ Some what
   how : Sends c (after c i) (lifts c i)
 
 record Holding (c : Card) (i : Item) : Type 0 where
-  notice : (at_desk c i).notice ≡ Unsent
+  notice : (at_desk c i).notice ≡ None
   how : legal_sets 0 c.sets ≡ true → Holds c (after c i) (lifts c i)
 
 moves : (c : Card) (i : Item) → Sending c i ⊎ Holding c i
@@ -217,7 +217,7 @@ moves c i =
     inr (record { notice = rw t; how = λ h. record { masked = rw (t, l); flag = rw (t, l, refused_lists c i h e) (sym (or-false _)) } }))
     (bool_cases (eqb (refusal_of c i) 0))
 
-not_sent : (id : ℕ) → Unsent ≡ To id → ⊥
+not_sent : (id : ℕ) → None ≡ Some id → ⊥
 not_sent id e = let z : ◌≡◌ {A = ℕ} 0 1 = cc in omega arith
 
 pub sent_only : SentOnly
@@ -251,12 +251,12 @@ Went c is = notices c is ≡ [] → ⊥
 cons_not : {A : Type 0} (x : A) (xs : List A) → x ∷ xs ≡ [] → ⊥
 cons_not x xs e = let z : ◌≡◌ {A = ℕ} 0 1 = cc in omega arith
 
-went_now : (c : Card) (i : Item) (is : List Item) (id : ℕ) → (at_desk c i).notice ≡ To id → Went c (i ∷ is)
+went_now : (c : Card) (i : Item) (is : List Item) (id : ℕ) → (at_desk c i).notice ≡ Some id → Went c (i ∷ is)
 went_now c i is id e z = cons_not id (notices (after c i) is) (rw e at z)
 
 tail_nil : (o : Notice) (ns : List ℕ) → told_of o ++ ns ≡ [] → ns ≡ []
-tail_nil Unsent ns e = e
-tail_nil (To id) ns e = absurd (cons_not id ns e)
+tail_nil None ns e = e
+tail_nil (Some id) ns e = absurd (cons_not id ns e)
 
 went_later : (c : Card) (i : Item) (is : List Item) → Went (after c i) is → Went c (i ∷ is)
 went_later c i is w z = w (tail_nil (at_desk c i).notice (notices (after c i) is) z)
@@ -358,8 +358,8 @@ woken c is l u n e o w =
 -- ---- one at most
 
 at_most : (o : Notice) (ns : List ℕ) → ns ≡ [] → length (told_of o ++ ns) ≤ 1
-at_most Unsent ns e = rw e (omega arith)
-at_most (To id) ns e = rw e (omega arith)
+at_most None ns e = rw e (omega arith)
+at_most (Some id) ns e = rw e (omega arith)
 
 few_notices : (is : List Item) (c : Card) → legal_card c ≡ true → none_lifts c is ≡ true → length (notices c is) ≤ 1
 few_notices [] c l n = omega arith

@@ -17,8 +17,8 @@ use Rattle.record.specs.Parts.{id_of}
 use Rattle.record.specs.Event.{bit, any_enabled}
 use Rattle.record.specs.Windows.{window_no}
 use Rattle.replies.specs.Numbers.{success, request_waits, bad_table}
-use Rattle.replies.specs.declared.Notice.{Notice}
-use Rattle.replies.specs.declared.Notice.TheVariants.{Unsent}
+use Rattle.replies.specs.Answers.{Notice}
+use Rattle.std.specs.Prelude.{None}
 use Rattle.replies.specs.declared.Reply.{Reply}
 use Rattle.replies.specs.Answers.{Answer, granted, refused, refusing, told_of}
 use Rattle.desk.specs.Desk.{new_desk, legal_desk}
@@ -46,7 +46,7 @@ use Rattle.steps.specs.SetUp.{set_up_lines, set_up_status, new_card, set_up}
 abbrev pub Refused : Type 0
 Refused =
     (c : Card) (i : Item) → legal_sets 0 c.sets ≡ true → (refusal_of c i ≡ 0 → ⊥)
-    → step c i ≡ record { card = c; answer = refused (refusal_of c i); notice = Unsent }
+    → step c i ≡ record { card = c; answer = refused (refusal_of c i); notice = None }
 
 -- and on the lent words, "however damaged": the refusal of an item that is handed in with them
 abbrev pub refusal_words : List ℕ → Item → ℕ

@@ -10,8 +10,8 @@ use Rattle.record.specs.declared.Record.{Record}
 use Rattle.record.specs.Parts.{id_of}
 use Rattle.record.specs.Event.{bit}
 use Rattle.replies.specs.Numbers.{success}
-use Rattle.replies.specs.declared.Notice.{Notice}
-use Rattle.replies.specs.declared.Notice.TheVariants.{Unsent, To}
+use Rattle.replies.specs.Answers.{Notice}
+use Rattle.std.specs.Prelude.{None, Some}
 use Rattle.replies.specs.declared.Reply.{Reply}
 use Rattle.replies.specs.Answers.{Answer, granted, replying, beside_of, told_of, told_no, to_no, notice_of}
 use Rattle.desk.specs.Desk.{Desk, waits, identifier_maximum}
@@ -83,7 +83,7 @@ backs H cs = map (λ (c : Called H). c.back) cs
 abbrev pub shown : (H : Holder) → List H.Lent → List Answer → List H.Back
 shown H [] answers = []
 shown H (l ∷ ls) [] = []
-shown H (l ∷ ls) (a ∷ answers) = H.shows l a Unsent ∷ shown H ls answers
+shown H (l ∷ ls) (a ∷ answers) = H.shows l a None ∷ shown H ls answers
 
 abbrev pub shown_with : (H : Holder) → List H.Lent → List Answer → List Notice → List H.Back
 shown_with H [] answers notices = []
@@ -141,7 +141,7 @@ module _ (H : Holder) where
       → H.Call (last H h cs) d.lent d.back d.held → H.item d.lent ≡ command bytes given room
       → kind_of (command_in bytes) ≡ ReadAggregate → H.status d.back ≡ 0
       → let ids = pending_ids (card_of (H.words h)) (items H cs) in
-      (H.without d.back ≡ H.shows d.lent (granted 0 (padded (aggregate_page ids) (offset (command_in bytes)) (dwords (command_in bytes) * dword_size))) Unsent)
+      (H.without d.back ≡ H.shows d.lent (granted 0 (padded (aggregate_page ids) (offset (command_in bytes)) (dwords (command_in bytes) * dword_size))) None)
       × Rising 0 ids
 
   -- The listing of one set is never lost to another: a set that is listed stays so, whatever calls are made that do not name it.
@@ -184,7 +184,7 @@ module _ (H : Holder) where
       → none_done H (configures (feature_set (command_in bytes))) cs ≡ true
       → H.item d.lent ≡ command bytes' given' room' → kind_of (command_in bytes') ≡ GetConfig
       → feature_set (command_in bytes') ≡ feature_set (command_in bytes) → H.status d.back ≡ 0
-      → H.without d.back ≡ H.shows d.lent (granted (bit (enable (command_in bytes))) (handed_back given)) Unsent
+      → H.without d.back ≡ H.shows d.lent (granted (bit (enable (command_in bytes))) (handed_back given)) None
 
   -- the same of 14h, where nothing moves the set's window in between
   abbrev pub WindowBack : Type 0
@@ -195,7 +195,7 @@ module _ (H : Holder) where
       → none_moved H (feature_set (command_in bytes)) c.held cs ≡ true
       → H.item d.lent ≡ command bytes' given' room' → kind_of (command_in bytes') ≡ GetWindow
       → feature_set (command_in bytes') ≡ feature_set (command_in bytes) → H.status d.back ≡ 0
-      → H.without d.back ≡ H.shows d.lent (granted (window_value (command_in bytes)) []) Unsent
+      → H.without d.back ≡ H.shows d.lent (granted (window_value (command_in bytes)) []) None
 
   -- and of 0Bh, where no other Set Features 0Bh is carried out in between
   abbrev pub NoticesBack : Type 0
@@ -205,7 +205,7 @@ module _ (H : Holder) where
       → H.item c.lent ≡ command bytes given room → kind_of (command_in bytes) ≡ SetNotices → H.status c.back ≡ 0
       → none_done H turns_notices cs ≡ true
       → H.item d.lent ≡ command bytes' given' room' → kind_of (command_in bytes') ≡ GetNotices → H.status d.back ≡ 0
-      → H.without d.back ≡ H.shows d.lent (granted (notices_no (turns_on (command_in bytes))) []) Unsent
+      → H.without d.back ≡ H.shows d.lent (granted (notices_no (turns_on (command_in bytes))) []) None
 
 -- ---- 02, "Wake the host", of a holder: Notices.antt has the same of the step, with the sentences.
 
@@ -250,12 +250,12 @@ module _ (H : Holder) where
   abbrev pub SentBack : Type 0
   SentBack =
       (h : H.Held) (c : Called H) (id : ℕ) → legal_table (H.words h) ≡ true → H.Call h c.lent c.back c.held
-      → H.hears c.lent ≡ true → H.notice c.back ≡ To id → Sends (card_of (H.words h)) (card_of (H.words c.held)) (lifts_call H c)
+      → H.hears c.lent ≡ true → H.notice c.back ≡ Some id → Sends (card_of (H.words h)) (card_of (H.words c.held)) (lifts_call H c)
 
   abbrev pub ElseBack : Type 0
   ElseBack =
       (h : H.Held) (c : Called H) → legal_table (H.words h) ≡ true → H.Call h c.lent c.back c.held
-      → H.hears c.lent ≡ true → H.notice c.back ≡ Unsent → Holds (card_of (H.words h)) (card_of (H.words c.held)) (lifts_call H c)
+      → H.hears c.lent ≡ true → H.notice c.back ≡ None → Holds (card_of (H.words h)) (card_of (H.words c.held)) (lifts_call H c)
 
   abbrev pub HeardBack : Type 0
   HeardBack =
@@ -265,7 +265,7 @@ module _ (H : Holder) where
   abbrev pub ServedBack : Type 0
   ServedBack =
       (h : H.Held) (c : Called H) → legal_table (H.words h) ≡ true → H.Call h c.lent c.back c.held → H.hears c.lent ≡ true
-      → (desk_held H h).flag ≡ true → lifts_call H c ≡ false → H.notice c.back ≡ Unsent → Unserved (desk_held H c.held)
+      → (desk_held H h).flag ≡ true → lifts_call H c ≡ false → H.notice c.back ≡ None → Unserved (desk_held H c.held)
 
   abbrev pub WokenBack : Type 0
   WokenBack =
@@ -338,7 +338,7 @@ pub record Steps (H : Holder) : Type 0 where
       (h : H.Held) (l : H.Lent) (b : H.Back) (g : H.Held) → H.Call h l b g
       → (at n : ℕ) → at + n ≤ length (step_words (H.words h) (H.item l)).answer.bytes
       → part (H.came b) at n ≡ part (step_words (H.words h) (H.item l)).answer.bytes at n
-  pub left_out : (l : H.Lent) (a : Answer) (n : Notice) → H.without (H.shows l a n) ≡ H.shows l a Unsent
+  pub left_out : (l : H.Lent) (a : Answer) (n : Notice) → H.without (H.shows l a n) ≡ H.shows l a None
   pub heard : (l : H.Lent) (a : Answer) (n : Notice) → H.hears l ≡ true → to_no n ≤ identifier_maximum → H.notice (H.shows l a n) ≡ n
   pub put_over : (h : H.Held) (ws vs : List ℕ) → length ws ≡ length vs → H.with_words (H.with_words h ws) vs ≡ H.with_words h vs
 
@@ -367,7 +367,7 @@ held_words =
       shows = λ l a n. record { reply = replying a.status a.dword (length a.bytes) n; buffer = sets l.before 0 a.bytes };
       status = λ b. b.reply.status;
       came = λ b. b.buffer;
-      without = λ b. record { reply = beside_of b.reply Unsent; buffer = b.buffer };
+      without = λ b. record { reply = beside_of b.reply None; buffer = b.buffer };
       notice = λ b. b.reply.notice;
       hears = λ l. true;
       Call = λ ws l b vs. Answered ws l.item l.before b.reply vs b.buffer;

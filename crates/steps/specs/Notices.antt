@@ -4,7 +4,7 @@
 -- cases, in proofs/NoticeCases.antt. The same of calls, one after another, is in Holders.antt.
 use Rattle.std.specs.Prelude.{◌≡◌, Bool, true, false, not, ◌&&◌, ◌||◌, List, [], ◌∷◌, ◌++◌, ◌⊎◌, ℕ, ◌≤◌, eqb, length, if◌then◌else◌}
 use Rattle.replies.specs.Numbers.{success, request_waits}
-use Rattle.replies.specs.declared.Notice.TheVariants.{Unsent, To}
+use Rattle.std.specs.Prelude.{None, Some}
 use Rattle.replies.specs.Answers.{granted}
 use Rattle.desk.specs.Desk.{Desk, waits, ready, legal_desk}
 use Rattle.table.specs.Card.{Card}
@@ -99,7 +99,7 @@ pub record Sends (before after : Card) (lifted : Bool) : Type 0 where
   pub no_read : lifted ≡ false
 
 abbrev pub SentOnly : Type 0
-SentOnly = (c : Card) (i : Item) (id : ℕ) → (step c i).notice ≡ To id → Sends c (step c i).card (lifts c i)
+SentOnly = (c : Card) (i : Item) (id : ℕ) → (step c i).notice ≡ Some id → Sends c (step c i).card (lifts c i)
 
 -- Where it sends none: "If a notice can't be sent, one flag remembers it." "A successful read of 0Bh with Retain 0 lifts the mask and
 -- drops the flag".
@@ -108,7 +108,7 @@ pub record Holds (before after : Card) (lifted : Bool) : Type 0 where
   pub flag : after.desk.flag ≡ not lifted && before.desk.flag || newly before.sets after.sets
 
 abbrev pub HeldElse : Type 0
-HeldElse = (c : Card) (i : Item) → legal_card c ≡ true → (step c i).notice ≡ Unsent → Holds c (step c i).card (lifts c i)
+HeldElse = (c : Card) (i : Item) → legal_card c ≡ true → (step c i).notice ≡ None → Holds c (step c i).card (lifts c i)
 
 -- ---- no listing unheard
 
@@ -140,7 +140,7 @@ Unserved d = (d.flag ≡ true) × (ready d ≡ false)
 
 abbrev pub ServedAtOnce : Type 0
 ServedAtOnce =
-    (c : Card) (i : Item) → legal_card c ≡ true → c.desk.flag ≡ true → lifts c i ≡ false → (step c i).notice ≡ Unsent
+    (c : Card) (i : Item) → legal_card c ≡ true → c.desk.flag ≡ true → lifts c i ≡ false → (step c i).notice ≡ None
     → Unserved (step c i).card.desk
 
 -- So what the host relies on: from a legal card with no mask (as set-up leaves it, and every such read), if an item listed a set,

@@ -10,7 +10,7 @@ use Rattle.record.specs.Event.{no_events}
 use Rattle.record.specs.Legal.{in_range}
 use Rattle.replies.specs.Numbers.{too_short, bad_set_up}
 use Rattle.replies.specs.Status.{Line, line, first_of}
-use Rattle.replies.specs.declared.Notice.TheVariants.{Unsent}
+use Rattle.std.specs.Prelude.{None}
 use Rattle.replies.specs.Answers.{granted}
 use Rattle.desk.specs.Desk.{new_desk}
 use Rattle.table.specs.Card.{Card, card_with}
@@ -75,7 +75,7 @@ new_table bytes ws = written ws (new_card bytes)
 unfoldable pub set_up : List ℕ → List ℕ → Result
 set_up bytes ws =
     if eqb (set_up_status bytes (length ws)) 0
-    then record { table = new_table bytes ws; answer = granted 0 []; notice = Unsent }
+    then record { table = new_table bytes ws; answer = granted 0 []; notice = None }
     else unchanged ws (set_up_status bytes (length ws))
 
 -- what set-up promises: the words that it leaves, and the number that it answers

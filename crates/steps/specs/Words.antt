@@ -2,8 +2,8 @@
 use Rattle.std.specs.Prelude.{◌≡◌, List, ℕ, ◌≤◌, length, if◌then◌else◌}
 use Rattle.replies.specs.Numbers.{success, bad_table}
 use Rattle.replies.specs.declared.Reply.{Reply}
-use Rattle.replies.specs.declared.Notice.{Notice}
-use Rattle.replies.specs.declared.Notice.TheVariants.{Unsent}
+use Rattle.replies.specs.Answers.{Notice}
+use Rattle.std.specs.Prelude.{None}
 use Rattle.replies.specs.Answers.{Answer, refused, told_no, to_no, Replied}
 use Rattle.table.specs.declared.Entry.{Entry}
 use Rattle.table.specs.declared.Entry.TheVariants.{Bad, Unknown, Here}
@@ -20,7 +20,7 @@ pub record Result : Type 0 where
 
 -- nothing changed, and a refusal
 abbrev pub unchanged : List ℕ → ℕ → Result
-unchanged ws status = record { table = ws; answer = refused status; notice = Unsent }
+unchanged ws status = record { table = ws; answer = refused status; notice = None }
 
 -- 01: "table not legal, or slice too short": 07C3h, and nothing changed. Else the card's step, written back.
 unfoldable pub step_words : List ℕ → Item → Result

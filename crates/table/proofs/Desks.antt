@@ -9,7 +9,7 @@ use lib.Dec.{eqb}
 use lib.ListN.{length, get_or}
 use lib.Seq.{sets, length-sets}
 use Rattle.octets.proofs.Runs.{sets_comm, sets_self, part_other, part_same}
-use Rattle.replies.specs.declared.Notice.TheVariants.{Unsent}
+use Rattle.std.specs.Prelude.{None}
 use Rattle.desk.specs.Desk.{Desk, Told, queued, turned, lifted, settle, requests_maximum, identifier_maximum, legal_desk}
 use Rattle.desk.specs.Words.{desk_size, desk_words, desk_in, desk_legal}
 use Rattle.desk.specs.AtWords.{settled_words, queued_words, turned_words, lifted_words}
@@ -40,7 +40,7 @@ module _ (ws : List ℕ) (t : DeskThere ws) where
   desk_stays = ap (sets ws desk_start) (sym (desk_words_lem ws t).words) ∙ sets_self ws desk_start desk_size (omega (arith, t.room))
 
   -- where nothing is listed, nothing is stored
-  pub quiet_tells : Tells ws (settle false (desk_at ws)) ws Unsent
+  pub quiet_tells : Tells ws (settle false (desk_at ws)) ws None
   quiet_tells =
       let q = settle_none (desk_at ws) desk_legal_lem in
       record { desk = sym (ap (λ (x : Told). with_desk ws x.desk) q ∙ desk_stays); sent = sym (ap (λ (x : Told). x.notice) q) }

@@ -2,7 +2,7 @@
 use Rattle.std.specs.Prelude.{◌≡◌, Bool, true, false, ◌&&◌, ◌||◌, List, [], ◌∷◌, map, ℕ, zero, suc, ◌+◌, ◌*◌, ◌≤◌, ltb, leb, eqb, length, get_or, if◌then◌else◌}
 use Rattle.std.proofs.lemmas.List.Edits.{sets}
 use Rattle.octets.specs.Octets.{part}
-use Rattle.replies.specs.declared.Notice.{Notice}
+use Rattle.replies.specs.Answers.{Notice}
 use Rattle.desk.specs.Desk.{Desk, Told}
 use Rattle.desk.specs.Words.{desk_size, desk_words, desk_in, desk_legal}
 use Rattle.record.specs.declared.Record.{Record}

@@ -135,7 +135,7 @@ pub fn settle(table: &mut [u64], new: bool) -> Notice
         put_desk(table, words);
         return notice;
     }
-    Notice::Unsent
+    None
 }
 
 // A request that arrives.

@@ -11,8 +11,8 @@ use lib.ListN.{length, get_or, take, drop, length-drop, get_or-eq_default}
 use lib.Seq.{sets, take-length}
 use Rattle.octets.specs.Numbers.{number_at}
 use Rattle.octets.proofs.JoinedTests.{both}
-use Rattle.replies.specs.declared.Notice.{Notice}
-use Rattle.replies.specs.declared.Notice.TheVariants.{Unsent, To}
+use Rattle.replies.specs.Answers.{Notice}
+use Rattle.std.specs.Prelude.{None, Some}
 use Rattle.replies.specs.declared.Reply.{Reply}
 use Rattle.replies.specs.Answers.{told_no, to_no, notice_of, cut}
 use Rattle.commands.specs.Commands.{command_size}
@@ -85,8 +85,8 @@ played_bare ws i r line₀ words mid line m n a p e =
 
 -- the two numbers by which a notice is handed on are all of it
 notice_back : (x : Notice) → notice_of (told_no x) (to_no x) ≡ x
-notice_back Unsent = refl
-notice_back (To id) = refl
+notice_back None = refl
+notice_back (Some id) = refl
 
 pub played_handed :
     (ws : List ℕ) (i : Item) (room : ℕ) (line₀ words mid line : List ℕ) (m n status dword told to : ℕ) (part : List ℕ) (notice : Notice)

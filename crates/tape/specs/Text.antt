@@ -4,8 +4,8 @@ use Prim.Native.Char.{code}
 use Prim.Native.String.{String}
 use Prim.Native.String as string
 use Rattle.std.proofs.lemmas.List.Edits.{sets}
-use Rattle.replies.specs.declared.Notice.{Notice}
-use Rattle.replies.specs.declared.Notice.TheVariants.{Unsent, To}
+use Rattle.replies.specs.Answers.{Notice}
+use Rattle.std.specs.Prelude.{None, Some}
 use Rattle.replies.specs.Answers.{Answer, notice_dword}
 
 -- a text's signs, by their numbers
@@ -93,8 +93,8 @@ abbrev pub told_line : ℕ → List ℕ
 told_line id = hex_of identifier_digits id ++ (space ∷ []) ++ hex_of dword_digits notice_dword ++ newline ∷ []
 
 abbrev pub notice_line : Notice → List ℕ
-notice_line Unsent = []
-notice_line (To id) = told_line id
+notice_line None = []
+notice_line (Some id) = told_line id
 
 -- room for it
 abbrev pub notice_room : ℕ

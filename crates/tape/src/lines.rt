@@ -53,8 +53,8 @@ pub(crate) fn notice_line(line: &mut [u8; LINE], at: usize, notice: Notice) -> u
     ensures { Put line.old at (notice_line notice) line.new result }
 {
     match notice {
-        Notice::Unsent => at,
-        Notice::To(id) => told_line(line, at, id),
+        None => at,
+        Some(id) => told_line(line, at, id),
     }
 }
 

@@ -3,8 +3,8 @@ use native.Mathlib.Omega.{arith}
 use borrow.Author.Rules.{rules}
 use Rattle.tape.proofs.lines.notice_line.Goals as goal
 
-pub returns-in-Unsent : goal.returns-in-Unsent
-returns-in-Unsent c = rw c.in-Unsent.is (record { bytes = refl; place = omega arith; within = search rules })
+pub returns-in-None : goal.returns-in-None
+returns-in-None c = rw c.in-None.is (record { bytes = refl; place = omega arith; within = search rules })
 
-pub returns-in-To : goal.returns-in-To
-returns-in-To c = rw c.in-To.is c.told_line.ensures
+pub returns-in-Some : goal.returns-in-Some
+returns-in-Some c = rw c.in-Some.is c.told_line.ensures
