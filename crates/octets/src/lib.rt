@@ -3,6 +3,7 @@
 #![tactic(auto)]
 
 pub mod casts;
+pub mod cells;
 pub mod numbers;
 pub mod words;
 

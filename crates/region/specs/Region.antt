@@ -29,13 +29,6 @@ pub record LegalAt (region : List ℕ) (slot : ℕ) : Type 0 where
   pub room : row_start (slot + 1) ≤ length region / word_size
   pub legal : legal_row (row (table_in region) slot) ≡ true
 
--- a record that has another one's attributes and configuration, as every item but Set Features 13h leaves them; and where nothing was
--- noted its notes too
-pub record Moved (noted : Bool) (r x : Record) : Type 0 where
-  pub attributes : x.attributes ≡ r.attributes
-  pub config : x.state.config ≡ r.state.config
-  pub notes : noted ≡ false → x.notes ≡ r.notes
-
 -- ---- many slots
 
 -- the region with these records in the slots from one on

@@ -1,5 +1,5 @@
 -- 01: "The table is a lent slice of 64-bit words": a header, then the sets, one row each. Words past it are not looked at.
-use Rattle.std.specs.Prelude.{◌≡◌, Bool, true, false, ◌&&◌, ◌||◌, List, [], ◌∷◌, map, ℕ, zero, suc, ◌+◌, ◌*◌, ◌≤◌, ltb, leb, eqb, length, get_or, if◌then◌else◌}
+use Rattle.std.specs.Prelude.{◌≡◌, Bool, true, false, ◌&&◌, ◌||◌, List, [], ◌∷◌, map, Option, None, Some, Result, Ok, Err, ℕ, zero, suc, ◌+◌, ◌*◌, ◌≤◌, ltb, leb, eqb, length, get_or, if◌then◌else◌}
 use Rattle.std.proofs.lemmas.List.Edits.{sets}
 use Rattle.octets.specs.Octets.{part}
 use Rattle.replies.specs.Answers.{Notice}
@@ -9,10 +9,9 @@ use Rattle.record.specs.declared.Record.{Record}
 use Rattle.record.specs.Parts.{id_of}
 use Rattle.record.specs.Event.{bit, newly_listed}
 use Rattle.record.specs.Legal.{in_range, legal_record}
-use Rattle.table.specs.declared.Found.{Found}
-use Rattle.table.specs.declared.Found.TheVariants.{At, Nothing}
-use Rattle.table.specs.declared.Entry.{Entry}
-use Rattle.table.specs.declared.Entry.TheVariants.{Bad, Unknown, Here}
+use Rattle.table.specs.declared.Absent.{Absent}
+use Rattle.table.specs.declared.Absent.TheVariants.{BadTable, NoSet}
+use Rattle.record.specs.declared.Slot.{Slot}
 use Rattle.table.specs.Layout.{row_words, words_of, record_of}
 use Rattle.table.specs.Card.{Card, card_with, layout_number, header_words, desk_start, header}
 
@@ -45,6 +44,13 @@ rows_from ws slot (suc n) = row ws slot ∷ rows_from ws (suc slot) n
 
 abbrev pub rows : List ℕ → List (List ℕ)
 rows ws = rows_from ws 0 (count ws)
+
+-- a record that has another one's attributes and configuration, as every item but Set Features 13h leaves them; and where nothing was
+-- noted its notes too
+pub record Moved (noted : Bool) (r x : Record) : Type 0 where
+  pub attributes : x.attributes ≡ r.attributes
+  pub config : x.state.config ≡ r.state.config
+  pub notes : noted ≡ false → x.notes ≡ r.notes
 
 -- the records of a table, in the order of its slots
 unfoldable pub records_of : List ℕ → List Record
@@ -98,9 +104,9 @@ room_for n room = in_range max_sets n && leb (row_start n) room
 abbrev pub sized : List ℕ → Bool
 sized ws = eqb (layout ws) layout_number && room_for (count ws) (length ws)
 
--- how many words the table of n sets takes, or 0 where so much room has none of that number
-abbrev pub extent_of : ℕ → ℕ → ℕ
-extent_of n room = if room_for n room then row_start n else 0
+-- how many words the table of n sets takes, where so much room has one of that number
+abbrev pub extent_of : ℕ → ℕ → Option ℕ
+extent_of n room = if room_for n room then Some (row_start n) else None
 
 -- "Legal table"; and 02: "Legal: at most four waiting, and no flag that could be served at once."
 unfoldable pub legal_table : List ℕ → Bool
@@ -128,20 +134,20 @@ pub record Tells (ws : List ℕ) (t : Told) (after : List ℕ) (notice : Notice)
 -- ---- looking up, writing back, the marks
 
 -- the first slot from `slot` on whose record has this identifier
-abbrev pub find_from : ℕ → ℕ → List Record → Found
-find_from id slot [] = Nothing
-find_from id slot (r ∷ rs) = if eqb (id_of r) id then At (record { 0 = slot }) else find_from id (suc slot) rs
+abbrev pub find_from : ℕ → ℕ → List Record → Option Slot
+find_from id slot [] = None
+find_from id slot (r ∷ rs) = if eqb (id_of r) id then Some (record { 0 = slot }) else find_from id (suc slot) rs
 
-unfoldable pub find_in : List ℕ → ℕ → Found
+unfoldable pub find_in : List ℕ → ℕ → Option Slot
 find_in ws id = find_from id 0 (records_of ws)
 
 -- the way into an item that names a set
-abbrev pub entry_of : Found → Entry
-entry_of (At slot) = Here slot
-entry_of Nothing = Unknown
+abbrev pub entry_of : Option Slot → Result Slot Absent
+entry_of (Some slot) = Ok slot
+entry_of None = Err NoSet
 
-unfoldable pub enter_in : List ℕ → ℕ → Entry
-enter_in ws id = if legal_table ws then entry_of (find_in ws id) else Bad
+unfoldable pub enter_in : List ℕ → ℕ → Result Slot Absent
+enter_in ws id = if legal_table ws then entry_of (find_in ws id) else Err BadTable
 
 -- the table with these records in the slots from `slot` on, its header as it was
 abbrev pub written_from : List ℕ → ℕ → List Record → List ℕ

@@ -1,22 +1,24 @@
-// The card's table in a lent slice of words: legality, the search for a set, one slot loaded and stored, and the listed
-// marks as one word. Words past the table are neither read nor written.
+// The card's table in a lent run of cells, words or their bytes: legality, the search for a set, one slot loaded and stored, and the
+// listed marks as one word. What follows the table is neither read nor written.
 #![tactic(auto)]
 
 pub mod layout;
 pub mod legal_words;
 
-ghost use Rattle.std.specs.Prelude.{◌≡◌, false, ◌+◌, ◌*◌, ◌<◌, ◌≤◌, length};
+ghost use Rattle.std.specs.Prelude.{◌≡◌, true, false, ◌+◌, ◌*◌, ◌<◌, ◌≤◌, length, get_or};
 ghost use Rattle.std.proofs.lemmas.List.Edits.{sets};
 ghost use Rattle.table.specs.Layout.{words_of, record_of};
 ghost use Rattle.record.specs.Parts.{id_of};
 ghost use Rattle.desk.specs.Desk.{queued, turned, lifted, settle, requests_maximum};
 ghost use Rattle.table.specs.Card.{header_words, desk_start};
-ghost use Rattle.table.specs.Table.{desk_part, desk_at, with_desk, DeskThere, Tells, count, row_start, row, rows, put, extent_of, sized, legal_rows, legal_table, Legal, records_of, find_in, enter_in, listed_word};
+ghost use Rattle.table.specs.Table.{desk_part, desk_at, with_desk, DeskThere, Tells, count, row_start, row, rows, put, extent_of, sized, legal_rows, legal_row, legal_table, Legal, Moved, records_of, find_in, enter_in, listed_word};
 
-use crate::layout::{DESK_START, HEADER, LAYOUT, LISTED, ROW, id_in, record_of, words_of};
+use crate::layout::{
+    DESK_START, HEADER, LAYOUT, LISTED, NOTES, ROW, WINDOW, id_in, record_of, words_of,
+};
 use crate::legal_words::follows;
 use desk::DESK;
-use octets::casts::to_size;
+use octets::cells::Cell;
 use record::{Record, SetId, Slot};
 use replies::Notice;
 
@@ -26,97 +28,105 @@ pub const MAX_SETS: usize = 64;
 // at each look, and it is proved that the count does not fall below 0: so no search takes an eighth look.
 pub const LOOKS: usize = 7;
 
+// Why there is no slot for an identifier: the table is not legal, or it has no such set.
 #[derive(Clone, Copy)]
-pub enum Found {
-    At(Slot),
-    Nothing,
-}
-
-// What stands at an identifier: a table that is not legal, no such set, or its slot.
-#[derive(Clone, Copy)]
-pub enum Entry {
-    Bad,
-    Unknown,
-    Here(Slot),
+pub enum Absent {
+    BadTable,
+    NoSet,
 }
 
 // The row of a slot.
-fn fetch(table: &[u64], slot: usize) -> [u64; ROW]
-    requires { row_start (slot + 1) ≤ length table.now }
-    ensures { result ≡ row table.now slot }
+fn fetch<C: Cell>(table: &[C], slot: Slot) -> [u64; ROW]
+    requires { row_start (slot.0 + 1) ≤ length (C.words table.now) }
+    ensures { result ≡ row (C.words table.now) slot.0 }
 {
     let mut a = [0u64; ROW];
-    let b = HEADER + slot * ROW;
-    let e = b + ROW;
-    octets::copy_words(&mut a, 0, &table[b..e]);
+    C::read(table, HEADER + slot.0 * ROW, &mut a);
     a
 }
 
-pub fn load(table: &[u64], slot: Slot) -> Record
-    requires { row_start (slot.0 + 1) ≤ length table.now }
-    ensures { result ≡ record_of (row table.now slot.0) }
+pub fn load<C: Cell>(table: &[C], slot: Slot) -> Record
+    requires { row_start (slot.0 + 1) ≤ length (C.words table.now) }
+    ensures { result ≡ record_of (row (C.words table.now) slot.0) }
 {
-    let i = slot.0;
-    record_of(fetch(table, i))
+    record_of(fetch(table, slot))
 }
 
-pub fn store(table: &mut [u64], slot: Slot, r: Record)
-    requires { row_start (slot.0 + 1) ≤ length table.old }
-    ensures { table.new ≡ put table.old slot.0 (words_of r) }
+pub fn store<C: Cell>(table: &mut [C], slot: Slot, r: Record)
+    requires { row_start (slot.0 + 1) ≤ length (C.words table.old) }
+    ensures words { C.words table.new ≡ put (C.words table.old) slot.0 (words_of r) }
+    ensures rest { C.rest table.new ≡ C.rest table.old }
+{
+    C::write(table, HEADER + slot.0 * ROW, &words_of(r));
+}
+
+// The same where the row's attributes and configuration stay: they are not written again, nor are the notes where nothing was noted.
+pub fn store_moved<C: Cell>(table: &mut [C], slot: Slot, r: Record, noted: bool)
+    requires room { row_start (slot.0 + 1) ≤ length (C.words table.old) }
+    requires legal { legal_row (row (C.words table.old) slot.0) ≡ true }
+    requires moved { Moved noted (record_of (row (C.words table.old) slot.0)) r }
+    ensures words { C.words table.new ≡ put (C.words table.old) slot.0 (words_of r) }
+    ensures rest { C.rest table.new ≡ C.rest table.old }
 {
     let a = words_of(r);
-    let i = slot.0;
-    octets::copy_words(table, HEADER + i * ROW, &a);
+    let at = HEADER + slot.0 * ROW;
+    C::write(table, at + WINDOW, &a[WINDOW..NOTES]);
+    if noted {
+        C::write(table, at + NOTES, &a[NOTES..ROW]);
+    }
 }
 
 // The number of sets.
-pub fn count_of(table: &[u64]) -> usize
-    requires { header_words ≤ length table.now }
-    ensures { result ≡ count table.now }
+pub fn count_of<C: Cell>(table: &[C]) -> usize
+    requires { header_words ≤ length (C.words table.now) }
+    ensures { result ≡ count (C.words table.now) }
 {
-    to_size(table[1])
+    C::word(table, 1) as usize
 }
 
-// How many words the table of n sets takes, or 0 where so much room has none of that number.
+// How many words the table of n sets takes, where so much room has one of that number.
 // The number is held against the maximum before it is multiplied, so that no number wraps.
-pub fn extent(n: usize, room: usize) -> usize
+pub fn extent(n: usize, room: usize) -> Option<usize>
     ensures { result ≡ extent_of n room }
 {
-    if MAX_SETS < n {
-        return 0;
+    if (1 <= n) & (n <= MAX_SETS) {
+        let end = HEADER + n * ROW;
+        if end <= room {
+            return Some(end);
+        }
     }
-    let end = HEADER + n * ROW;
-    if (1 <= n) & (end <= room) { end } else { 0 }
+    None
 }
 
 // The desk's words.
-pub fn desk_of(table: &[u64]) -> [u64; DESK]
-    requires { header_words ≤ length table.now }
-    ensures { result ≡ desk_part table.now }
+pub fn desk_of<C: Cell>(table: &[C]) -> [u64; DESK]
+    requires { header_words ≤ length (C.words table.now) }
+    ensures { result ≡ desk_part (C.words table.now) }
 {
     let mut a = [0u64; DESK];
-    octets::copy_words(&mut a, 0, &table[DESK_START..HEADER]);
+    C::read(table, DESK_START, &mut a);
     a
 }
 
-fn put_desk(table: &mut [u64], a: [u64; DESK])
-    requires { header_words ≤ length table.old }
-    ensures { table.new ≡ sets table.old desk_start a }
+fn put_desk<C: Cell>(table: &mut [C], a: [u64; DESK])
+    requires { header_words ≤ length (C.words table.old) }
+    ensures words { C.words table.new ≡ sets (C.words table.old) desk_start a }
+    ensures rest { C.rest table.new ≡ C.rest table.old }
 {
-    octets::copy_words(table, DESK_START, &a);
+    C::write(table, DESK_START, &a);
 }
 
 // How many requests wait, and whether notices are on.
-pub fn waiting_at(table: &[u64]) -> u64
-    requires { DeskThere table.now }
-    ensures { result ≡ length (desk_at table.now).waiting }
+pub fn waiting_at<C: Cell>(table: &[C]) -> u64
+    requires { DeskThere (C.words table.now) }
+    ensures { result ≡ length (desk_at (C.words table.now)).waiting }
 {
     desk::waiting(desk_of(table))
 }
 
-pub fn on_at(table: &[u64]) -> bool
-    requires { DeskThere table.now }
-    ensures { result ≡ (desk_at table.now).on }
+pub fn on_at<C: Cell>(table: &[C]) -> bool
+    requires { DeskThere (C.words table.now) }
+    ensures { result ≡ (desk_at (C.words table.now)).on }
 {
     desk::is_on(desk_of(table))
 }
@@ -124,9 +134,10 @@ pub fn on_at(table: &[u64]) -> bool
 // ---- the end of an item: what it does to the desk, and the notice that goes beside its answer
 
 // `new`: it has listed a set that was not listed. Where it has not, a legal desk stays as it is.
-pub fn settle(table: &mut [u64], new: bool) -> Notice
-    requires { DeskThere table.old }
-    ensures { Tells table.old (settle new (desk_at table.old)) table.new result }
+pub fn settle<C: Cell>(table: &mut [C], new: bool) -> Notice
+    requires { DeskThere (C.words table.old) }
+    ensures desk { Tells (C.words table.old) (settle new (desk_at (C.words table.old))) (C.words table.new) result }
+    ensures rest { C.rest table.new ≡ C.rest table.old }
 {
     if new {
         let s = desk::settle(desk_of(table), true);
@@ -139,9 +150,10 @@ pub fn settle(table: &mut [u64], new: bool) -> Notice
 }
 
 // A request that arrives.
-pub fn queue(table: &mut [u64], id: u16) -> Notice
-    requires { DeskThere table.old × (length (desk_at table.old).waiting < requests_maximum) }
-    ensures { Tells table.old (settle false (queued id (desk_at table.old))) table.new result }
+pub fn queue<C: Cell>(table: &mut [C], id: u16) -> Notice
+    requires { DeskThere (C.words table.old) × (length (desk_at (C.words table.old)).waiting < requests_maximum) }
+    ensures desk { Tells (C.words table.old) (settle false (queued id (desk_at (C.words table.old)))) (C.words table.new) result }
+    ensures rest { C.rest table.new ≡ C.rest table.old }
 {
     let s = desk::queue_and_settle(desk_of(table), id);
     let words = s.words;
@@ -151,9 +163,10 @@ pub fn queue(table: &mut [u64], id: u16) -> Notice
 }
 
 // Feature 0Bh.
-pub fn turn(table: &mut [u64], on: bool) -> Notice
-    requires { DeskThere table.old }
-    ensures { Tells table.old (settle false (turned on (desk_at table.old))) table.new result }
+pub fn turn<C: Cell>(table: &mut [C], on: bool) -> Notice
+    requires { DeskThere (C.words table.old) }
+    ensures desk { Tells (C.words table.old) (settle false (turned on (desk_at (C.words table.old)))) (C.words table.new) result }
+    ensures rest { C.rest table.new ≡ C.rest table.old }
 {
     let s = desk::turn_and_settle(desk_of(table), on);
     let words = s.words;
@@ -163,84 +176,90 @@ pub fn turn(table: &mut [u64], on: bool) -> Notice
 }
 
 // A read of page 0Bh with Retain 0.
-pub fn lift(table: &mut [u64])
-    requires { DeskThere table.old }
-    ensures { table.new ≡ with_desk table.old (lifted (desk_at table.old)) }
+pub fn lift<C: Cell>(table: &mut [C])
+    requires { DeskThere (C.words table.old) }
+    ensures desk { C.words table.new ≡ with_desk (C.words table.old) (lifted (desk_at (C.words table.old))) }
+    ensures rest { C.rest table.new ≡ C.rest table.old }
 {
     let words = desk::lift(desk_of(table));
     put_desk(table, words);
 }
 
-fn fits(table: &[u64]) -> bool
-    ensures { result ≡ sized table.now }
+fn fits<C: Cell>(table: &[C]) -> bool
+    ensures { result ≡ sized (C.words table.now) }
 {
-    if table.len() < HEADER {
+    let room = C::room(table);
+    if room < HEADER {
         return false;
     }
-    let known = table[0] == LAYOUT;
-    known & (0 < extent(to_size(table[1]), table.len()))
+    let known = C::word(table, 0) == LAYOUT;
+    known & extent(count_of(table), room).is_some()
 }
 
-fn rows_legal(table: &[u64], n: usize) -> bool
-    requires { (n ≡ count table.now) × (row_start n ≤ length table.now) }
-    ensures { result ≡ legal_rows 0 (rows table.now) }
+fn rows_legal<C: Cell>(table: &[C], n: usize) -> bool
+    requires { (n ≡ count (C.words table.now)) × (row_start n ≤ length (C.words table.now)) }
+    ensures { result ≡ legal_rows 0 (rows (C.words table.now)) }
 {
     let mut before = 0;
-    let mut i = 0;
-    while i < n {
-        let a = fetch(table, i);
-        if follows(before, a) {
-            before = id_in(a);
-        } else {
+    for i in 0..n {
+        let a = fetch(table, Slot(i));
+        if !follows(before, a) {
             return false;
         }
-        i += 1;
+        before = id_in(a);
     }
     true
 }
 
-pub fn legal(table: &[u64]) -> bool
-    ensures { result ≡ legal_table table.now }
+pub fn legal<C: Cell>(table: &[C]) -> bool
+    ensures { result ≡ legal_table (C.words table.now) }
 {
     if fits(table) {
         if desk::legal(desk_of(table)) {
-            return rows_legal(table, to_size(table[1]));
+            return rows_legal(table, count_of(table));
         }
     }
     false
 }
 
-// The identifier of the set in a slot.
-pub fn id_of(table: &[u64], slot: Slot) -> SetId
-    requires { row_start (slot.0 + 1) ≤ length table.now }
-    ensures { result.0 ≡ id_of (record_of (row table.now slot.0)) }
+// The identifier's word of a slot.
+fn id_at<C: Cell>(table: &[C], slot: usize) -> u64
+    requires { row_start (slot + 1) ≤ length (C.words table.now) }
+    ensures { result ≡ get_or (C.words table.now) (row_start slot) 0 }
 {
-    let i = slot.0;
-    SetId((table[HEADER + i * ROW] % 65536) as u16)
+    C::word(table, HEADER + slot * ROW)
+}
+
+// The identifier of the set in a slot.
+pub fn id_of<C: Cell>(table: &[C], slot: Slot) -> SetId
+    requires { row_start (slot.0 + 1) ≤ length (C.words table.now) }
+    ensures { result.0 ≡ id_of (record_of (row (C.words table.now) slot.0)) }
+{
+    SetId((id_at(table, slot.0) % 65536) as u16)
 }
 
 // 02: "Make the search quicker using the rising order." Identifiers rise, from 1 or above, so that slot k has one above k: a set s
 // lies in slot s - 1 or before it, and in s - 1 itself where no identifier below s is left out. If there is such a slot, the first
 // look is there. After that so many slots are `left`, from `from` on, that may hold the set. Each look is at the middle one, since
 // what it finds tells of a half of them.
-pub fn find(table: &[u64], id: SetId) -> Found
-    requires { Legal table.now }
-    ensures { result ≡ find_in table.now id.0 }
+pub fn find<C: Cell>(table: &[C], id: SetId) -> Option<Slot>
+    requires { Legal (C.words table.now) }
+    ensures { result ≡ find_in (C.words table.now) id.0 }
 {
     // no set has it
     if id.0 == 0 {
-        return Found::Nothing;
+        return None;
     }
-    let identifier = id.0 as usize;
-    let want = id.0 as u64;
-    let sets = to_size(table[1]);
+    let identifier = usize::from(id.0);
+    let want = u64::from(id.0);
+    let sets = count_of(table);
     let mut looks = LOOKS;
     let mut left = sets;
     if identifier <= sets {
         let slot = identifier - 1;
         looks -= 1;
-        if table[HEADER + slot * ROW] == want {
-            return Found::At(Slot(slot));
+        if id_at(table, slot) == want {
+            return Some(Slot(slot));
         }
         left = slot;
     }
@@ -249,9 +268,9 @@ pub fn find(table: &[u64], id: SetId) -> Found
         let half = left / 2;
         let slot = from + half;
         looks -= 1;
-        let here = table[HEADER + slot * ROW];
+        let here = id_at(table, slot);
         if here == want {
-            return Found::At(Slot(slot));
+            return Some(Slot(slot));
         }
         if here < want {
             from = slot + 1;
@@ -260,33 +279,28 @@ pub fn find(table: &[u64], id: SetId) -> Found
             left = half;
         }
     }
-    Found::Nothing
+    None
 }
 
 // The way into every item that names a set.
-pub fn enter(table: &[u64], id: SetId) -> Entry
-    ensures { result ≡ enter_in table.now id.0 }
+pub fn enter<C: Cell>(table: &[C], id: SetId) -> Result<Slot, Absent>
+    ensures { result ≡ enter_in (C.words table.now) id.0 }
 {
     if legal(table) {
-        match find(table, id) {
-            Found::At(slot) => Entry::Here(slot),
-            Found::Nothing => Entry::Unknown,
-        }
+        find(table, id).ok_or(Absent::NoSet)
     } else {
-        Entry::Bad
+        Err(Absent::BadTable)
     }
 }
 
 // The listed marks, gathered from the last slot to the first: the first set's is the lowest bit.
-pub fn listed_word(table: &[u64]) -> u64
-    requires { Legal table.now }
-    ensures { result ≡ listed_word (records_of table.now) }
+pub fn listed_word<C: Cell>(table: &[C]) -> u64
+    requires { Legal (C.words table.now) }
+    ensures { result ≡ listed_word (records_of (C.words table.now)) }
 {
     let mut word: u64 = 0;
-    let mut i = to_size(table[1]);
-    while 0 < i {
-        i -= 1;
-        word = word * 2 + table[HEADER + i * ROW + LISTED];
+    for i in (0..count_of(table)).rev() {
+        word = word * 2 + C::word(table, HEADER + i * ROW + LISTED);
     }
     word
 }
