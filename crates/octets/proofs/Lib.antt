@@ -8,4 +8,5 @@ pub mod Pages
 pub mod Reading
 pub mod WordBytes
 pub mod InPlace
+pub mod CellWords
 pub mod Halves

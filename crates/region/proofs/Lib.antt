@@ -1,3 +1,4 @@
 pub mod Words
 pub mod EveryRow
 pub mod AtDesk
+pub mod WrittenBack
