@@ -9,6 +9,7 @@ use lib.Dec.{lit<}
 use lib.ListN.{length, get_or, set, take, drop, length-take, length-drop}
 use lib.Seq.{sets, length-sets, drop-cons, drop-length, drop-drop}
 use Rattle.octets.specs.Octets.{bytes_of, number_of, part, AllBytes}
+pub use Rattle.octets.specs.Words.{length_words}
 use Rattle.octets.specs.Words.{word_size, words_from, put_words}
 use Rattle.octets.proofs.Runs.{sets_self, drop_sets}
 use Rattle.octets.proofs.PutAndGet.{length_bytes}
@@ -54,10 +55,6 @@ word_sum l at room =
       part_cons l (at + 7) 0 (omega arith),
     )
     (omega arith)
-
-pub length_words : (bytes : List ℕ) (at n : ℕ) → length (words_from bytes at n) ≡ n
-length_words bytes at zero = refl
-length_words bytes at (suc n) = ap suc (length_words bytes (at + word_size) n)
 
 pub in_turn : (words bytes : List ℕ) (at i n : ℕ) → i < n
     → sets (set words i (number_of (part bytes at word_size))) (i + 1) (words_from bytes (at + word_size) (n - (i + 1))) ≡ sets words i (words_from bytes at (n - i))

@@ -1,5 +1,6 @@
 -- Words of 64 bits as bytes, one after another: 01, "its words' little-endian bytes".
-use Rattle.std.specs.Prelude.{List, [], ◌∷◌, ℕ, zero, suc, ◌+◌, ◌^◌}
+use Rattle.std.specs.Prelude.{◌≡◌, refl, List, [], ◌∷◌, ℕ, zero, suc, ◌+◌, ◌/◌, ◌^◌, ◌≤◌, length}
+use Rattle.std.proofs.Common.{ap, arith}
 use Rattle.std.proofs.lemmas.List.Edits.{sets}
 use Rattle.octets.specs.Octets.{bytes_of, number_of, part, AllBelow}
 
@@ -15,6 +16,14 @@ AllWords l = AllBelow (2 ^ 64) l
 abbrev pub words_from : List ℕ → ℕ → ℕ → List ℕ
 words_from bytes at zero = []
 words_from bytes at (suc n) = number_of (part bytes at word_size) ∷ words_from bytes (at + word_size) n
+
+-- they are n, and so at most as many as there are bytes
+pub length_words : (bytes : List ℕ) (at n : ℕ) → length (words_from bytes at n) ≡ n
+length_words bytes at zero = refl
+length_words bytes at (suc n) = ap suc (length_words bytes (at + word_size) n)
+
+pub words_few : (bytes : List ℕ) → length (words_from bytes 0 (length bytes / word_size)) ≤ length bytes
+words_few bytes = omega (arith, length_words bytes 0 (length bytes / word_size))
 
 -- the bytes with words put from a place on
 abbrev pub put_words : List ℕ → ℕ → List ℕ → List ℕ

@@ -1,8 +1,9 @@
 // Words in a run of cells: each cell a word, or a byte of one.
 ghost use Rattle.std.specs.Prelude.{◌≡◌, List, [], ℕ, ◌+◌, ◌*◌, ◌/◌, ◌<◌, ◌≤◌, length, drop, get_or};
+ghost use Rattle.std.proofs.Common.{arith};
 ghost use Rattle.std.proofs.lemmas.List.Edits.{sets};
 ghost use Rattle.octets.specs.Octets.{part};
-ghost use Rattle.octets.specs.Words.{word_size, words_from};
+ghost use Rattle.octets.specs.Words.{word_size, words_from, words_few};
 
 use crate::words::{WORD, word_at, words_in, words_out};
 
@@ -31,12 +32,17 @@ pub trait Cell: Copy {
         requires { k + length run.now ≤ length (words cells.old) }
         ensures words { words cells.new ≡ sets (words cells.old) k run.now }
         ensures rest { rest cells.new ≡ rest cells.old };
+
+    // A cell holds a word at most, so that the place of each is a usize.
+    ghost fits: { (cells : List Self) → length (words cells) ≤ length cells };
 }
 
 impl Cell for u64 {
     ghost words = { λ cells. cells };
 
     ghost rest = { λ cells. [] };
+
+    ghost fits = { λ cells. Prim.omega arith };
 
     fn room(cells: &[u64]) -> usize {
         cells.len()
@@ -62,6 +68,8 @@ impl Cell for u8 {
     ghost words = { λ cells. words_from cells 0 (length cells / word_size) };
 
     ghost rest = { λ cells. drop (length cells / word_size * word_size) cells };
+
+    ghost fits = { words_few };
 
     fn room(cells: &[u8]) -> usize {
         cells.len() / WORD
