@@ -11,11 +11,11 @@ use lib.ListN.{length, get_or, length-map, length-take, length-drop}
 use Rattle.octets.proofs.JoinedTests.{both}
 use Rattle.record.specs.declared.Record.{Record}
 use Rattle.record.specs.Legal.{in_range, legal_record}
-use Rattle.std.specs.Prelude.{if◌then◌else◌}
+use Rattle.std.specs.Prelude.{if◌then◌else◌, is_some, Option, None, Some, Result, Ok, Err}
+use Rattle.std.specs.Option.{ok_or}
 use Rattle.record.specs.declared.Slot.{Slot}
-use Rattle.table.specs.declared.Found.{Found}
-use Rattle.table.specs.declared.Found.TheVariants.{At, Nothing}
-use Rattle.table.specs.declared.Entry.TheVariants.{Bad, Unknown, Here}
+use Rattle.table.specs.declared.Absent.{Absent}
+use Rattle.table.specs.declared.Absent.TheVariants.{BadTable, NoSet}
 use Rattle.table.specs.Layout.{words_of, record_of}
 use Rattle.record.specs.Parts.{id_of}
 use Rattle.desk.specs.Words.{desk_legal, WordsOfDesk}
@@ -39,17 +39,11 @@ sized_known ws h =
     record { known = eqb-true _ _ l.0; some = leb-true _ _ q.0; few = leb-true _ _ q.1; room = leb-true _ _ p.1 }
 
 -- how the code finds it out
-pub room_many : (n room : ℕ) → max_sets < n → room_for n room ≡ false
-room_many n room h = rw (lt-leb n max_sets h, and-false)
-
-pub room_few : (n room : ℕ) → n ≤ max_sets → room_for n room ≡ leb 1 n && leb (row_start n) room
-room_few n room h = rw (le-leb n max_sets h, and-true)
-
-pub some_extent : (n room : ℕ) → ltb 0 (extent_of n room) ≡ room_for n room
+pub some_extent : (n room : ℕ) → is_some (extent_of n room) ≡ room_for n room
 some_extent n room = by (room_for n room)
   where
-    by : (b : Bool) → ltb 0 (if b then row_start n else 0) ≡ b
-    by true = lt-ltb 0 (row_start n) (omega arith)
+    by : (b : Bool) → is_some (if b then Some (row_start n) else None) ≡ b
+    by true = refl
     by false = refl
 
 pub sized_short : (ws : List ℕ) → length ws < header_words → sized ws ≡ false
@@ -114,48 +108,52 @@ sets_known ws l = sets_of_rows 0 (rows ws) (rows_known ws l)
 -- ---- the way into an item
 
 module _ (ws : List ℕ) (id : ℕ) where
-  pub enter_bad : legal_table ws ≡ false → Bad ≡ enter_in ws id
+  pub enter_bad : legal_table ws ≡ false → Err BadTable ≡ enter_in ws id
   unfolding enter_in
   enter_bad e = rw e
 
-  pub enter_found : (f : Found) → legal_table ws ≡ true → f ≡ find_in ws id → entry_of f ≡ enter_in ws id
+  pub enter_found : (f : Option Slot) → legal_table ws ≡ true → f ≡ find_in ws id → entry_of f ≡ enter_in ws id
   unfolding enter_in
   enter_found f e q = rw (e, q)
 
+pub ok_or_entry : (f : Option Slot) → ok_or f NoSet ≡ entry_of f
+ok_or_entry (Some s) = refl
+ok_or_entry None = refl
+
 -- what each way in tells
-bad_here : (s : Slot) → Bad ≡ Here s → ⊥
+bad_here : (s : Slot) → ◌≡◌ {A = Result Slot Absent} (Err BadTable) (Ok s) → ⊥
 bad_here s e = let z : ◌≡◌ {A = ℕ} 0 1 = cc in omega arith
 
-bad_unknown : Bad ≡ Unknown → ⊥
+bad_unknown : ◌≡◌ {A = Result Slot Absent} (Err BadTable) (Err NoSet) → ⊥
 bad_unknown e = let z : ◌≡◌ {A = ℕ} 0 1 = cc in omega arith
 
-unknown_here : (s : Slot) → Unknown ≡ Here s → ⊥
+unknown_here : (s : Slot) → ◌≡◌ {A = Result Slot Absent} (Err NoSet) (Ok s) → ⊥
 unknown_here s e = let z : ◌≡◌ {A = ℕ} 0 1 = cc in omega arith
 
-opened_bad : (b : Bool) (f : Found) → (if b then entry_of f else Bad) ≡ Bad → b ≡ false
-opened_bad true (At s) e = absurd (bad_here s (sym e))
-opened_bad true Nothing e = absurd (bad_unknown (sym e))
+opened_bad : (b : Bool) (f : Option Slot) → (if b then entry_of f else Err BadTable) ≡ Err BadTable → b ≡ false
+opened_bad true (Some s) e = absurd (bad_here s (sym e))
+opened_bad true None e = absurd (bad_unknown (sym e))
 opened_bad false f e = refl
 
-opened_unknown : (b : Bool) (f : Found) → (if b then entry_of f else Bad) ≡ Unknown → (b ≡ true) × (f ≡ Nothing)
-opened_unknown true (At s) e = absurd (unknown_here s (sym e))
-opened_unknown true Nothing e = (refl, refl)
+opened_unknown : (b : Bool) (f : Option Slot) → (if b then entry_of f else Err BadTable) ≡ Err NoSet → (b ≡ true) × (f ≡ None)
+opened_unknown true (Some s) e = absurd (unknown_here s (sym e))
+opened_unknown true None e = (refl, refl)
 opened_unknown false f e = absurd (bad_unknown e)
 
-opened_here : (b : Bool) (f : Found) (s : Slot) → (if b then entry_of f else Bad) ≡ Here s → (b ≡ true) × (f ≡ At s)
-opened_here true (At t) s e = (refl, cc)
-opened_here true Nothing s e = absurd (unknown_here s e)
+opened_here : (b : Bool) (f : Option Slot) (s : Slot) → (if b then entry_of f else Err BadTable) ≡ Ok s → (b ≡ true) × (f ≡ Some s)
+opened_here true (Some t) s e = (refl, cc)
+opened_here true None s e = absurd (unknown_here s e)
 opened_here false f s e = absurd (bad_here s e)
 
 module _ (ws : List ℕ) (id : ℕ) where
-  pub is_bad : enter_in ws id ≡ Bad → legal_table ws ≡ false
+  pub is_bad : enter_in ws id ≡ Err BadTable → legal_table ws ≡ false
   unfolding enter_in
   is_bad e = opened_bad (legal_table ws) (find_in ws id) e
 
-  pub is_unknown : enter_in ws id ≡ Unknown → (legal_table ws ≡ true) × (find_in ws id ≡ Nothing)
+  pub is_unknown : enter_in ws id ≡ Err NoSet → (legal_table ws ≡ true) × (find_in ws id ≡ None)
   unfolding enter_in
   is_unknown e = opened_unknown (legal_table ws) (find_in ws id) e
 
-  pub is_here : (s : Slot) → enter_in ws id ≡ Here s → (legal_table ws ≡ true) × (find_in ws id ≡ At s)
+  pub is_here : (s : Slot) → enter_in ws id ≡ Ok s → (legal_table ws ≡ true) × (find_in ws id ≡ Some s)
   unfolding enter_in
   is_here s e = opened_here (legal_table ws) (find_in ws id) s e

@@ -10,7 +10,7 @@ use borrow.Author.Tests.{ltb-true, eq-eqb, ne_eqb}
 use lib.ListN.{length, get_or}
 use Rattle.octets.proofs.JoinedTests.{both}
 use Rattle.record.specs.Parts.{id_of}
-use Rattle.table.specs.declared.Found.TheVariants.{At, Nothing}
+use Rattle.std.specs.Prelude.{None, Some}
 use Rattle.table.specs.Layout.{record_of}
 use Rattle.table.specs.Table.{count, row_start, rows, records_of, legal_row, legal_after, legal_rows, Legal, find_from, find_in, max_sets}
 use Rattle.table.proofs.Slots.{row_at, length_rows}
@@ -41,7 +41,7 @@ rise p (suc j) (suc k) (a ∷ rs) h l m = rise (id_of (record_of a)) j k rs (bot
 
 find_hit :
     (id i k : ℕ) (rs : List (List ℕ)) → k < length rs → ((j : ℕ) → j < k → row_id rs j ≡ id → ⊥) → row_id rs k ≡ id
-    → find_from id i (map record_of rs) ≡ At (record { 0 = i + k })
+    → find_from id i (map record_of rs) ≡ Some (record { 0 = i + k })
 find_hit id i k [] l n e = absurd (not-suc-le-zero l)
 find_hit id i zero (a ∷ rs) l n e = rw (eq-eqb (id_of (record_of a)) id e, add-zero i)
 find_hit id i (suc k) (a ∷ rs) l n e =
@@ -49,7 +49,7 @@ find_hit id i (suc k) (a ∷ rs) l n e =
     rw (ne_eqb (id_of (record_of a)) id (n 0 (omega arith)), ← q) (find_hit id (suc i) k rs (omega arith) (λ j h. n (suc j) (omega arith)) e)
 
 find_miss :
-    (id i : ℕ) (rs : List (List ℕ)) → ((j : ℕ) → j < length rs → row_id rs j ≡ id → ⊥) → find_from id i (map record_of rs) ≡ Nothing
+    (id i : ℕ) (rs : List (List ℕ)) → ((j : ℕ) → j < length rs → row_id rs j ≡ id → ⊥) → find_from id i (map record_of rs) ≡ None
 find_miss id i [] n = refl
 find_miss id i (a ∷ rs) n =
     rw (ne_eqb (id_of (record_of a)) id (n 0 (omega arith))) (find_miss id (suc i) rs (λ j h. n (suc j) (omega arith)))
@@ -125,10 +125,10 @@ module _ (ws : List ℕ) (l : Legal ws) where
         here = not_below q (omega (arith, id_above (id - 1) number_inside))
 
   -- no slot before one that has the identifier has it
-  pub search_here : (id slot : ℕ) → slot < count ws → id_at ws slot ≡ id → At (record { 0 = slot }) ≡ find_in ws id
+  pub search_here : (id slot : ℕ) → slot < count ws → id_at ws slot ≡ id → Some (record { 0 = slot }) ≡ find_in ws id
   unfolding find_in records_of
   search_here id slot h e =
-      sym (find_hit id 0 slot (rows ws) (omega (arith, length_rows ws 0 (count ws), h)) others (row_id_lem slot h ∙ e) ∙ ap (λ (k : ℕ). At (record { 0 = k })) (zero-add slot))
+      sym (find_hit id 0 slot (rows ws) (omega (arith, length_rows ws 0 (count ws), h)) others (row_id_lem slot h ∙ e) ∙ ap (λ (k : ℕ). Some (record { 0 = k })) (zero-add slot))
     where
       others : (j : ℕ) → j < slot → row_id (rows ws) j ≡ id → ⊥
       others j b q = omega (arith, ids_rise j slot b h, row_id_lem j (omega (arith, b, h)), q, e)
@@ -166,7 +166,7 @@ module _ (ws : List ℕ) (l : Legal ws) where
             few = half_few left looks s.few look_more;
           }
 
-    pub search_nowhere : left ≤ 0 → Nothing ≡ find_in ws id
+    pub search_nowhere : left ≤ 0 → None ≡ find_in ws id
     unfolding find_in records_of
     search_nowhere t = sym (find_miss id 0 (rows ws) (λ j h q. none j (omega (arith, length_rows ws 0 (count ws))) q))
       where
@@ -179,6 +179,6 @@ module _ (ws : List ℕ) (l : Legal ws) where
             (eq-zero-or-pos (from - j))
 
   -- no set has identifier 0
-  pub search_zero : Nothing ≡ find_in ws 0
+  pub search_zero : None ≡ find_in ws 0
   unfolding find_in records_of
   search_zero = sym (find_miss 0 0 (rows ws) (λ j h q. omega (arith, climbs 0 j (rows ws) (rows_known ws l) h, q)))

@@ -3,4 +3,4 @@ use Rattle.table.proofs.Desks.{count_waiting}
 use Rattle.table.proofs.waiting_at.Goals as goal
 
 pub returns : goal.returns
-returns c = (rw c.desk_of.ensures at c.waiting.ensures) ∙ count_waiting c.args.table.now c.requires
+returns g c = (rw c.desk_of.ensures at c.waiting.ensures) ∙ count_waiting (g.C.Cell.words c.args.table.now) c.requires
