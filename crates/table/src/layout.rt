@@ -3,11 +3,9 @@ ghost use Rattle.std.specs.Prelude.{◌≡◌};
 ghost use Rattle.record.specs.Parts.{id_of};
 ghost use Rattle.table.specs.Layout.{field_words, words_of, window_in, attributes_at, state_at, notes_at, record_of};
 
-use octets::casts::{bit_of, from_size, from_u32};
-use record::event::{bits_of, events_in};
+use octets::casts::{bit_of, from_u32};
 use record::parts::{config_of, recovered, spent, state_of};
-use record::windows::window_no;
-use record::{Attributes, Capacity, Group, Notes, Record, SetId, State, Window};
+use record::{Attributes, Capacity, Events, Group, Notes, Record, SetId, State, Window};
 
 // The header: the number of this layout, which every change of it raises, the number of sets, and the desk.
 pub const HEADER: usize = 10;
@@ -34,9 +32,9 @@ fn field_words(r: Record) -> [u64; ROW]
     let w = s.window;
     let enabled = r.state.config.enabled;
     let events = r.notes.events;
-    let window = from_size(window_no(w));
-    let enev = bits_of(enabled);
-    let bits = bits_of(events);
+    let window = u64::from(w);
+    let enev = u64::from(enabled);
+    let bits = u64::from(events);
     let listed = bit_of(r.notes.listed);
     let reads_typical = from_u32(r.attributes.reads_typical);
     let writes_typical = from_u32(r.attributes.writes_typical);
@@ -80,13 +78,7 @@ fn field_words(r: Record) -> [u64; ROW]
 fn window_in(n: u64) -> Window
     ensures { result ≡ window_in n }
 {
-    if n == 0 {
-        Window::Off
-    } else if n == 1 {
-        Window::D
-    } else {
-        Window::N
-    }
+    Window::try_from(n).unwrap_or(Window::N)
 }
 
 fn attributes_at(a: [u64; ROW]) -> Attributes
@@ -117,7 +109,7 @@ fn state_at(a: [u64; ROW]) -> State
     ensures { result ≡ state_at a }
 {
     let window = window_in(a[17]);
-    let enabled = events_in(a[13]);
+    let enabled = Events::from_bits_truncate(a[13]);
     let config = config_of(enabled, a[14], a[15], a[16]);
     let spent = spent(
         (a[18] % 4294967296) as u32,
@@ -131,7 +123,7 @@ fn state_at(a: [u64; ROW]) -> State
 fn notes_at(a: [u64; ROW]) -> Notes
     ensures { result ≡ notes_at a }
 {
-    let events = events_in(a[23]);
+    let events = Events::from_bits_truncate(a[23]);
     Notes {
         events: events,
         listed: a[24] == 1,
