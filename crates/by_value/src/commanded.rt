@@ -19,7 +19,6 @@ use commands::{Command, Kind, enables, offset_of, retains, selects_d};
 use pages::features::{FEATURE_SIZE, config_in, config_onto};
 use pages::latency::{LATENCY_SIZE, latency_onto, latency_page};
 use record::event::settle;
-use record::windows::window_no;
 use record::{Attributes, Effect, Record, State, Window};
 use replies::{Reply, done, give};
 use rules::{Cause, clearing_read, go_to_selected, keep_still, set_mode};
@@ -124,8 +123,7 @@ fn mode_no(s: State) -> u32
 fn window_word(s: State) -> u32
     ensures { result ≡ window_no s.window }
 {
-    let w = s.window;
-    window_no(w) as u32
+    s.window as u32
 }
 
 fn hand_config(r: Record, answer: &mut [u8]) -> Reply

@@ -6,9 +6,8 @@ ghost use Rattle.steps.specs.SetUp.{new_state, new_record, attributes_from, set_
 ghost use Rattle.by_value.specs.SetUp.{follows_of};
 
 use pages::bodies::{BODY, body_id, body_legal};
-use record::event::no_events;
-use record::parts::{config_of, nothing_recovered, nothing_spent, state_of};
-use record::{Attributes, Notes, Record, State, Window};
+use record::parts::{config_of, state_of};
+use record::{Attributes, Events, Notes, Record, Recovery, Spent, State, Window};
 use replies::numbers::{BAD_SET_UP, TOO_SHORT};
 use table::MAX_SETS;
 use table::layout::{HEADER, ROW};
@@ -16,17 +15,16 @@ use table::layout::{HEADER, ROW};
 fn new_state() -> State
     ensures { result ≡ new_state }
 {
-    let config = config_of(no_events(), 0, 0, 0);
-    state_of(Window::Off, config, nothing_spent(), nothing_recovered())
+    let config = config_of(Events::NONE, 0, 0, 0);
+    state_of(Window::Off, config, Spent::NONE, Recovery::NONE)
 }
 
 pub fn new_record(a: Attributes) -> Record
     ensures { result ≡ new_record a }
 {
     let state = new_state();
-    let events = no_events();
     let notes = Notes {
-        events: events,
+        events: Events::NONE,
         listed: false,
     };
     Record {

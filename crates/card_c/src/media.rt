@@ -9,7 +9,7 @@ ghost use Rattle.by_value.specs.Ticks.{tick_one};
 ghost use Rattle.card_c.specs.InPlace.{RuledAt, AnswerAtC};
 
 use by_value::entry::entry_no;
-use record::event::{is_silent, newly_listed, settle};
+use record::event::{newly_listed, settle};
 use record::legal::DAY_MS;
 use record::{Effect, Record, SetId, Slot};
 use region::{load, store_moved};
@@ -25,7 +25,7 @@ fn store_effect(region: &mut [u8], slot: Slot, r: Record, e: Effect) -> bool
     ensures { (region.new ≡ with_record region.old slot.0 (settled r e)) × (result ≡ newly_listed r (settled r e)) }
 {
     let x = settle(r, e);
-    let silent = is_silent(e);
+    let silent = e.is_silent();
     store_moved(region, slot, x, !silent);
     newly_listed(r, x)
 }

@@ -7,13 +7,24 @@ ghost use Rattle.desk.specs.Desk.{requests_maximum};
 ghost use Rattle.desk.specs.Words.{servable, desk_legal};
 ghost use Rattle.desk.specs.AtWords.{places_legal, sends, served, remembered, settled_words, queued_words, turned_words, lifted_words};
 
-use octets::casts::{bit_of, from_short, to_size};
 use replies::Notice;
 
 // How many words a desk takes, and how many requests may wait.
 pub const DESK: usize = 8;
 
 pub const REQUESTS: u64 = 4;
+
+// Which word is which; where the first identifier stands, those of the later requests follow. The words are the header's, which lies in
+// memory of a fixed size: so the identifiers stand beside a count, and a desk is its words and no struct that they would be turned into.
+const ON: usize = 0;
+
+const MASKED: usize = 1;
+
+const FLAG: usize = 2;
+
+const COUNT: usize = 3;
+
+const FIRST: usize = 4;
 
 // The largest identifier.
 const IDENTIFIER: u64 = 0xFFFF;
@@ -29,46 +40,29 @@ pub struct Settled {
 fn places_legal(a: [u64; DESK]) -> bool
     ensures { result ≡ places_legal a }
 {
-    let n = a[3];
-    if n == 0 {
-        return (a[4] == 0) & (a[5] == 0) & (a[6] == 0) & (a[7] == 0);
+    let [_, _, _, count, p, q, r, s] = a;
+    match count {
+        0 => (p == 0) & (q == 0) & (r == 0) & (s == 0),
+        1 => (p <= IDENTIFIER) & (q == 0) & (r == 0) & (s == 0),
+        2 => (p <= IDENTIFIER) & (q <= IDENTIFIER) & (r == 0) & (s == 0),
+        3 => (p <= IDENTIFIER) & (q <= IDENTIFIER) & (r <= IDENTIFIER) & (s == 0),
+        REQUESTS => (p <= IDENTIFIER) & (q <= IDENTIFIER) & (r <= IDENTIFIER) & (s <= IDENTIFIER),
+        _ => false,
     }
-    if n == 1 {
-        return (a[4] <= IDENTIFIER) & (a[5] == 0) & (a[6] == 0) & (a[7] == 0);
-    }
-    if n == 2 {
-        return (a[4] <= IDENTIFIER) & (a[5] <= IDENTIFIER) & (a[6] == 0) & (a[7] == 0);
-    }
-    if n == 3 {
-        return (a[4] <= IDENTIFIER) & (a[5] <= IDENTIFIER) & (a[6] <= IDENTIFIER) & (a[7] == 0);
-    }
-    if n == REQUESTS {
-        return (a[4] <= IDENTIFIER)
-            & (a[5] <= IDENTIFIER)
-            & (a[6] <= IDENTIFIER)
-            & (a[7] <= IDENTIFIER);
-    }
-    false
 }
 
 // A flag that could be served at once.
 fn servable(a: [u64; DESK]) -> bool
     ensures { result ≡ servable a }
 {
-    (a[2] == 1) & (a[0] == 1) & (a[1] == 0) & (0 < a[3])
+    (a[FLAG] == 1) & (a[ON] == 1) & (a[MASKED] == 0) & (0 < a[COUNT])
 }
 
 // Asked of every table, so by branches that a card takes again and again.
 pub fn legal(a: [u64; DESK]) -> bool
     ensures { result ≡ desk_legal a }
 {
-    if (a[0] <= 1) & (a[1] <= 1) & (a[2] <= 1) {
-        if servable(a) {
-            return false;
-        }
-        return places_legal(a);
-    }
-    false
+    (a[ON] <= 1) & (a[MASKED] <= 1) & (a[FLAG] <= 1) && !servable(a) && places_legal(a)
 }
 
 // ---- what commands do
@@ -78,10 +72,9 @@ fn queue(a: [u64; DESK], id: u16) -> [u64; DESK]
     requires { get_or a 3 0 < requests_maximum }
     ensures { result ≡ queued_words id a }
 {
-    let n = to_size(a[3]);
     let mut b = a;
-    b[4 + n] = from_short(id);
-    b[3] = a[3] + 1;
+    b[FIRST + a[COUNT] as usize] = u64::from(id);
+    b[COUNT] += 1;
     b
 }
 
@@ -89,7 +82,7 @@ fn turn(a: [u64; DESK], on: bool) -> [u64; DESK]
     ensures { result ≡ turned_words on a }
 {
     let mut b = a;
-    b[0] = bit_of(on);
+    b[ON] = u64::from(on);
     b
 }
 
@@ -98,8 +91,8 @@ pub fn lift(a: [u64; DESK]) -> [u64; DESK]
     ensures { result ≡ lifted_words a }
 {
     let mut b = a;
-    b[1] = 0;
-    b[2] = 0;
+    b[MASKED] = 0;
+    b[FLAG] = 0;
     b
 }
 
@@ -107,13 +100,13 @@ pub fn lift(a: [u64; DESK]) -> [u64; DESK]
 pub fn waiting(a: [u64; DESK]) -> u64
     ensures { result ≡ get_or a 3 0 }
 {
-    a[3]
+    a[COUNT]
 }
 
 pub fn is_on(a: [u64; DESK]) -> bool
     ensures { result ≡ eqb (get_or a 0 0) 1 }
 {
-    a[0] == 1
+    a[ON] == 1
 }
 
 // ---- notices
@@ -122,7 +115,7 @@ pub fn is_on(a: [u64; DESK]) -> bool
 fn sends(a: [u64; DESK], new: bool) -> bool
     ensures { result ≡ sends new a }
 {
-    ((a[2] == 1) | new) & (a[0] == 1) & (a[1] == 0) & (0 < a[3])
+    ((a[FLAG] == 1) | new) & (a[ON] == 1) & (a[MASKED] == 0) & (0 < a[COUNT])
 }
 
 // The oldest request is completed: further notices are masked, and there is nothing more to tell.
@@ -130,12 +123,10 @@ fn served(a: [u64; DESK]) -> Settled
     requires { 0 < get_or a 3 0 }
     ensures { result ≡ served a }
 {
-    let id = (a[4] % 0x10000) as u16;
-    let words = [a[0], 1, 0, a[3] - 1, a[5], a[6], a[7], 0];
-    let notice = Some(id);
+    let [on, _, _, count, oldest, q, r, s] = a;
     Settled {
-        words: words,
-        notice: notice,
+        words: [on, 1, 0, count - 1, q, r, s, 0],
+        notice: Some((oldest & IDENTIFIER) as u16),
     }
 }
 
@@ -143,12 +134,11 @@ fn served(a: [u64; DESK]) -> Settled
 fn remembered(a: [u64; DESK], new: bool) -> Settled
     ensures { result ≡ remembered new a }
 {
-    let mut b = a;
-    b[2] = bit_of((a[2] == 1) | new);
-    let notice = None;
+    let mut words = a;
+    words[FLAG] = u64::from((a[FLAG] == 1) | new);
     Settled {
-        words: b,
-        notice: notice,
+        words,
+        notice: None,
     }
 }
 

@@ -9,9 +9,7 @@ use crate::capacities::{capacity_in, put_capacity};
 use octets::casts::{from_short, from_u32};
 use octets::numbers::{short, word, word_in};
 use octets::{Place, put_at};
-use record::legal::{
-    DAY_MS, FOUR_BYTES_MAXIMUM, NUMBER_MAXIMUM, TYPICAL_MAXIMUM, not_above, word_in_range,
-};
+use record::legal::{DAY_MS, FOUR_BYTES_MAXIMUM, NUMBER_MAXIMUM, TYPICAL_MAXIMUM, in_range};
 use record::{Attributes, Group, SetId};
 
 pub const BODY: usize = 84;
@@ -88,13 +86,13 @@ fn sizes_legal(bytes: &[u8], at: usize) -> bool
     requires { at + body_size ≤ length bytes.now }
     ensures { result ≡ legal_sizes (attributes_in bytes.now at) }
 {
-    let id = word_in_range(NUMBER_MAXIMUM, body_id(bytes, at));
-    let group = word_in_range(NUMBER_MAXIMUM, from_short(short(bytes, at + GROUP.at)));
+    let id = in_range(NUMBER_MAXIMUM, body_id(bytes, at));
+    let group = in_range(NUMBER_MAXIMUM, from_short(short(bytes, at + GROUP.at)));
     let random = word(bytes, at + RANDOM_READ.at) <= FOUR_BYTES_MAXIMUM;
     let optimal = word(bytes, at + OPTIMAL_WRITE.at) <= FOUR_BYTES_MAXIMUM;
     let total = capacity_in(bytes, at, TOTAL);
     let unallocated = capacity_in(bytes, at, UNALLOCATED);
-    id & group & random & optimal & not_above(unallocated, total)
+    id & group & random & optimal & (unallocated <= total)
 }
 
 // Whether a body's attributes are in range, straight on its numbers: what of them is kept says no more whether they were.
@@ -103,13 +101,13 @@ pub fn body_legal(bytes: &[u8], at: usize) -> bool
     ensures { result ≡ legal_attributes (attributes_in bytes.now at) }
 {
     let sizes = sizes_legal(bytes, at);
-    let reads = word_in_range(TYPICAL_MAXIMUM, word_in(bytes, at, READS));
-    let writes = word_in_range(TYPICAL_MAXIMUM, word_in(bytes, at, WRITES));
-    let time = word_in_range(DAY_MS, word_in(bytes, at, TIME));
+    let reads = in_range(TYPICAL_MAXIMUM, word_in(bytes, at, READS));
+    let writes = in_range(TYPICAL_MAXIMUM, word_in(bytes, at, WRITES));
+    let time = in_range(DAY_MS, word_in(bytes, at, TIME));
     let most = word_in(bytes, at, HIGH);
     let least = word_in(bytes, at, LOW);
-    let high = word_in_range(DAY_MS, most);
-    let low = word_in_range(DAY_MS, least);
+    let high = in_range(DAY_MS, most);
+    let low = in_range(DAY_MS, least);
     sizes & reads & writes & time & high & low & (least <= most)
 }
 

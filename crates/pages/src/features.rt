@@ -6,9 +6,8 @@ ghost use Rattle.pages.specs.Features.{feature_size, config_fields, config_page,
 
 use octets::numbers::word_in;
 use octets::{Place, put_at};
-use record::Config;
-use record::event::{bits_of, events_in};
 use record::parts::config_of;
+use record::{Config, Events};
 
 pub const FEATURE_SIZE: usize = 512;
 
@@ -24,9 +23,7 @@ fn put_config(page: &mut [u8], c: Config)
     requires { feature_size ≤ length page.old }
     ensures { page.new ≡ puts page.old (config_fields c) }
 {
-    let enabled = c.enabled;
-    let bits = bits_of(enabled);
-    put_at(page, 0, ENABLED, bits);
+    put_at(page, 0, ENABLED, u64::from(c.enabled));
     put_at(page, 0, READS, c.thresholds.reads);
     put_at(page, 0, WRITES, c.thresholds.writes);
     put_at(page, 0, TIME, c.thresholds.time);
@@ -54,7 +51,7 @@ pub fn config_in(bytes: &[u8]) -> Config
     ensures { result ≡ config_in bytes.now }
 {
     let bits = octets::get(bytes, ENABLED.at, ENABLED.width);
-    let enabled = events_in(bits);
+    let enabled = Events::from_bits_truncate(bits);
     let reads = word_in(bytes, 0, READS);
     let writes = word_in(bytes, 0, WRITES);
     let time = word_in(bytes, 0, TIME);

@@ -5,10 +5,9 @@ ghost use Rattle.octets.specs.Pages.{fields_at, puts};
 ghost use Rattle.pages.specs.Capacities.{limits_of};
 ghost use Rattle.pages.specs.Latency.{latency_size, latency_limits, latency_estimates, estimates_of, latency_fields, latency_page};
 
-use octets::casts::{from_size, from_u32};
+use octets::casts::from_u32;
 use octets::{Place, put_at};
-use record::event::{bits_of, estimate_of};
-use record::windows::window_no;
+use record::event::estimate_of;
 use record::{Attributes, Quantity, Record, State};
 
 pub const LATENCY_SIZE: usize = 512;
@@ -59,10 +58,8 @@ fn put_latency(page: &mut [u8], r: Record)
 {
     let a = r.attributes;
     let s = r.state;
-    let w = s.window;
-    let events = r.notes.events;
-    put_at(page, 0, WINDOW, from_size(window_no(w)));
-    put_at(page, 0, EVENTS, bits_of(events));
+    put_at(page, 0, WINDOW, u64::from(s.window));
+    put_at(page, 0, EVENTS, u64::from(r.notes.events));
     put_limits(page, a);
     put_estimates(page, a, s);
 }

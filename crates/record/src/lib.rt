@@ -18,11 +18,11 @@ pub struct Slot(pub usize);
 #[derive(Clone, Copy)]
 pub struct Group(pub u16);
 
-// A capacity of 16 bytes, as its lower and upper 64 bits.
-#[derive(Clone, Copy)]
+// A capacity of 16 bytes, as its upper and lower 64 bits: in this order, by which two are compared.
+#[derive(Clone, Copy, PartialEq, Eq, PartialOrd, Ord)]
 pub struct Capacity {
-    pub low: u64,
     pub high: u64,
+    pub low: u64,
 }
 
 // Static: no item changes it. Times are in milliseconds. Typicals, times and counts are u32, as 01's ranges are, so that no sum of two of
@@ -42,12 +42,13 @@ pub struct Attributes {
     pub minimum_low: u32,
 }
 
-// Off is the mode off: a set that is on is in D, the deterministic window, or in N, the non-deterministic one.
-#[derive(Clone, Copy)]
+// Off is the mode off: a set that is on is in D, the deterministic window, or in N, the non-deterministic one. The numbers are those of
+// page 0Ah, of the words and of the rows of the table of window changes.
+#[derive(Clone, Copy, PartialEq, Eq)]
 pub enum Window {
-    Off,
-    D,
-    N,
+    Off = 0,
+    D = 1,
+    N = 2,
 }
 
 // What a set uses up in D: each has a limit, a count, a threshold and a warning.
@@ -83,7 +84,7 @@ pub struct Config {
 }
 
 // What is spent in D. All zero outside D.
-#[derive(Clone, Copy)]
+#[derive(Clone, Copy, PartialEq, Eq)]
 pub struct Spent {
     pub reads: u32,
     pub writes: u32,
@@ -91,7 +92,7 @@ pub struct Spent {
 }
 
 // What is recovered in N: the time in it, and the need, which it must reach before D may be selected. Both zero outside N.
-#[derive(Clone, Copy)]
+#[derive(Clone, Copy, PartialEq, Eq)]
 pub struct Recovery {
     pub time: u32,
     pub need: u32,

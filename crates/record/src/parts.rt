@@ -1,8 +1,20 @@
 // The parts of a state, each made in one place.
 ghost use Rattle.std.specs.Prelude.{◌≡◌};
-ghost use Rattle.record.specs.Parts.{config_of, spends, nothing_spent, recovers, no_recovery, state_of, effect_of};
+ghost use Rattle.record.specs.Parts.{config_of, spends, recovers, state_of, effect_of};
 
 use crate::{Config, Effect, Events, Recovery, Spent, State, Thresholds, Window};
+
+impl Spent {
+    pub const NONE: Spent = Spent {
+        reads: 0,
+        writes: 0,
+        time: 0,
+    };
+}
+
+impl Recovery {
+    pub const NONE: Recovery = Recovery { time: 0, need: 0 };
+}
 
 // ENEV, and the thresholds of reads, of writes and of time.
 pub fn config_of(enabled: Events, reads: u64, writes: u64, time: u64) -> Config
@@ -29,22 +41,10 @@ pub fn spent(reads: u32, writes: u32, time: u32) -> Spent
     }
 }
 
-pub fn nothing_spent() -> Spent
-    ensures { result ≡ nothing_spent }
-{
-    spent(0, 0, 0)
-}
-
 pub fn recovered(time: u32, need: u32) -> Recovery
     ensures { result ≡ recovers time need }
 {
     Recovery { time, need }
-}
-
-pub fn nothing_recovered() -> Recovery
-    ensures { result ≡ no_recovery }
-{
-    recovered(0, 0)
 }
 
 pub fn state_of(window: Window, config: Config, spent: Spent, recovery: Recovery) -> State

@@ -1,21 +1,32 @@
-// A window's number, and whether two are the same.
-ghost use Rattle.std.specs.Prelude.{◌≡◌, ◌<◌};
-ghost use Rattle.record.specs.Windows.{window_no, same_window};
+// A window's number, and the window of a number.
+ghost use Rattle.std.specs.Prelude.{◌≡◌};
+ghost use Rattle.record.specs.Windows.{window_no, window_of};
 
 use crate::Window;
 
-pub fn window_no(w: Window) -> usize
-    ensures { (result ≡ window_no w) × (result < 3) }
-{
-    match w {
-        Window::Off => 0,
-        Window::D => 1,
-        Window::N => 2,
+impl From<Window> for u64 {
+    ghost from_gives = { λ w n. n ≡ window_no w };
+
+    fn from(w: Window) -> u64 {
+        w as u64
     }
 }
 
-pub fn same_window(v: Window, w: Window) -> bool
-    ensures { result ≡ same_window v w }
-{
-    window_no(v) == window_no(w)
+// A number that stands for no window.
+#[derive(Clone, Copy)]
+pub struct NoWindow;
+
+impl TryFrom<u64> for Window {
+    type Error = NoWindow;
+
+    ghost try_from_gives = { λ n r. r ≡ window_of n };
+
+    fn try_from(n: u64) -> Result<Window, NoWindow> {
+        match n {
+            0 => Ok(Window::Off),
+            1 => Ok(Window::D),
+            2 => Ok(Window::N),
+            _ => Err(NoWindow),
+        }
+    }
 }

@@ -1,10 +1,12 @@
 -- The laws of the need, and that the code's numbers have room for it.
 use mathlib.Core.Path.{◌≡◌, ap}
 use mathlib.Core.Bool.{true}
-use Prim.Native.Nat.{ℕ, ◌+◌, ◌*◌, ◌-◌, ◌≤◌, ◌<◌, ◌^◌, min}
+use Prim.Native.Nat.{ℕ, ◌+◌, ◌*◌, ◌-◌, ◌≤◌, ◌<◌, min}
 use native.Mathlib.Omega.{arith}
-use native.Mathlib.Nat.{mul-le-mul, mul-le-mul_left, div-lt_iff_lt-mul, le-div_iff_mul-le, div-mul-le_self, add-mul, div-zero}
+use native.Mathlib.Nat.{mul-le-mul_left, div-lt_iff_lt-mul, le-div_iff_mul-le, div-mul-le_self, add-mul, div-zero}
 use borrow.Author.Tests.{leb-true}
+use Rattle.std.specs.Int.{div_ceil}
+use Rattle.std.proofs.lemmas.Grind.{div_ceil_times}
 use Rattle.octets.proofs.JoinedTests.{and_left, and_right}
 use Rattle.record.specs.declared.Attributes.{Attributes}
 use Rattle.record.specs.Legal.{legal_attributes}
@@ -36,7 +38,7 @@ up_rises : (x z y : ℕ) → 0 < y → x ≤ z → up_by x y ≤ up_by z y
 up_rises x z y p h = (le-div_iff_mul-le p).1 (let q = div-mul-le_self (x + (y - 1)) y in omega arith)
 
 -- of a product no more than a factor, where the other is at most the divisor
-up_most : (d s y : ℕ) → 0 < y → s ≤ y → up_by (d * s) y ≤ d
+pub up_most : (d s y : ℕ) → 0 < y → s ≤ y → up_by (d * s) y ≤ d
 up_most d s y p h =
     let m : d * s ≤ d * y = mul-le-mul_left d h in
     let e : (d + 1) * y ≡ d * y + 1 * y = add-mul d 1 y in
@@ -83,10 +85,14 @@ need_rounded a s h =
 
 -- ---- for the code
 
--- a product of two numbers of 32 bits, and one more
-pub product_fits : (x s y : ℕ) → x < 2 ^ 32 → s < 2 ^ 32 → y < 2 ^ 32 → x * s + y < 2 ^ 64
-product_fits x s y h k l =
-    let p : x * s ≤ 4294967295 * 4294967295 = mul-le-mul {n₂ = 4294967295} {m₂ = 4294967295} (omega arith) (omega arith) in
+-- the library's quotient, rounded up
+pub up_is : (x y : ℕ) → 0 < y → div_ceil x y ≡ up_by x y
+up_is x y p =
+    let b = div_ceil_times x y p in
+    let q = div_ceil x y in
+    let l : q ≤ up_by x y = (le-div_iff_mul-le p).1 (omega arith) in
+    let e : (q + 1) * y ≡ q * y + 1 * y = add-mul q 1 y in
+    let g : up_by x y < q + 1 = (div-lt_iff_lt-mul p).1 (omega arith) in
     omega arith
 
 -- where maximum is 0, which no legal set has
@@ -95,18 +101,12 @@ unfolding need_after
 no_maximum a s z = rw (z, div-zero ((a.minimum_high - a.minimum_low) * s + (0 - 1))) (omega arith)
 
 -- after a full window: whatever low and high are, the greater of them
-full : (a : Attributes) → (a.time_maximum ≡ 0 → ⊥) → need_after a a.time_maximum ≡ a.minimum_low + (a.minimum_high - a.minimum_low)
+pub full : (a : Attributes) → (a.time_maximum ≡ 0 → ⊥) → need_after a a.time_maximum ≡ a.minimum_low + (a.minimum_high - a.minimum_low)
 unfolding need_after
 full a z =
     let d = a.minimum_high - a.minimum_low in
     let p : 0 < a.time_maximum = omega arith in
     omega (arith, up_most d a.time_maximum a.time_maximum p (omega arith), up_full d a.time_maximum p)
-
-pub full_high : (a : Attributes) → (a.time_maximum ≡ 0 → ⊥) → a.minimum_low < a.minimum_high → a.minimum_high ≡ need_after a a.time_maximum
-full_high a z l = omega (arith, full a z)
-
-pub full_low : (a : Attributes) → (a.time_maximum ≡ 0 → ⊥) → a.minimum_high ≤ a.minimum_low → a.minimum_low ≡ need_after a a.time_maximum
-full_low a z l = omega (arith, full a z)
 
 -- of a time in D no more than maximum counts
 pub counted : (a : Attributes) (n : ℕ) → n < a.time_maximum → need_after a n ≡ need_after a (min n a.time_maximum)
@@ -114,17 +114,3 @@ counted a n l = ap (need_after a) (omega arith)
 
 pub all_counted : (a : Attributes) (n : ℕ) → a.time_maximum ≤ n → need_after a a.time_maximum ≡ need_after a (min n a.time_maximum)
 all_counted a n l = ap (need_after a) (omega arith)
-
--- put together of its parts
-module _ (a : Attributes) (s more x up : ℕ)
-    (e : more ≡ a.minimum_high - a.minimum_low) (f : x ≡ more * s) (g : up ≡ up_by x a.time_maximum) where
-  pub is_need : a.minimum_low + up ≡ need_after a s
-  unfolding need_after
-  is_need = rw (g, f, e)
-
-  -- whatever low and high are, it has no more bits than they
-  pub need_fits : s < a.time_maximum → a.minimum_low < 2 ^ 32 → a.minimum_high < 2 ^ 32 → a.minimum_low + up < 2 ^ 32
-  need_fits l h k =
-      let u = up_most (a.minimum_high - a.minimum_low) s a.time_maximum (omega arith) (omega arith) in
-      let w : up ≡ up_by ((a.minimum_high - a.minimum_low) * s) a.time_maximum = rw (g, f, e) in
-      omega arith

@@ -6,7 +6,7 @@ use Rattle.record.specs.Windows.{by_window, window_no}
 use Rattle.rules.specs.declared.Cause.{Cause}
 use Rattle.rules.specs.declared.Cause.TheVariants.{Enable, Disable, SelectD, SelectN, Excursion, Exceeded, TimeUp}
 use Rattle.rules.specs.declared.Next.{Next}
-use Rattle.rules.specs.declared.Next.TheVariants.{Never, Refuse, ToOff, ToD, ToN}
+use Rattle.rules.specs.declared.Next.TheVariants.{Never, Refuse, To}
 
 -- the table's columns
 abbrev pub cause_no : Cause → ℕ
@@ -21,9 +21,9 @@ cause_no TimeUp = 6
 -- the table; its "if time is spent" is `is_early` of Rules
 abbrev pub changes : List (List Next)
 changes =
-    (ToN ∷ ToOff ∷ Refuse ∷ Refuse ∷ ToOff ∷ Never ∷ Never ∷ [])
-    ∷ (ToN ∷ ToOff ∷ ToD ∷ ToN ∷ ToN ∷ ToN ∷ ToN ∷ [])
-    ∷ (ToN ∷ ToOff ∷ ToD ∷ ToN ∷ ToN ∷ Never ∷ Never ∷ [])
+    (To N ∷ To Off ∷ Refuse ∷ Refuse ∷ To Off ∷ Never ∷ Never ∷ [])
+    ∷ (To N ∷ To Off ∷ To D ∷ To N ∷ To N ∷ To N ∷ To N ∷ [])
+    ∷ (To N ∷ To Off ∷ To D ∷ To N ∷ To N ∷ Never ∷ Never ∷ [])
     ∷ []
 
 -- the entry for a window and a cause
@@ -34,9 +34,7 @@ next w c = get_or (get_or changes (window_no w) []) (cause_no c) Never
 abbrev pub moved_to : Window → Next → Window
 moved_to w Never = w
 moved_to w Refuse = w
-moved_to w ToOff = Off
-moved_to w ToD = D
-moved_to w ToN = N
+moved_to w (To v) = v
 
 abbrev pub moved_by : Window → Cause → Window
 moved_by w c = moved_to w (next w c)
@@ -44,9 +42,7 @@ moved_by w c = moved_to w (next w c)
 abbrev pub is_refuse : Next → Bool
 is_refuse Never = false
 is_refuse Refuse = true
-is_refuse ToOff = false
-is_refuse ToD = false
-is_refuse ToN = false
+is_refuse (To v) = false
 
 abbrev pub refused_by : Window → Cause → Bool
 refused_by w c = is_refuse (next w c)

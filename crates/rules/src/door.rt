@@ -6,22 +6,13 @@ ghost use Rattle.rules.specs.Door.{restarts, carried_by, need_by, need_in, into,
 use crate::Cause;
 use crate::changes::moved;
 use crate::need::{full_need, need_after};
-use record::parts::{nothing_spent, recovered, state_of};
-use record::windows::same_window;
-use record::{Attributes, State, Window};
+use record::parts::{recovered, state_of};
+use record::{Attributes, Spent, State, Window};
 
 fn starts_again(c: Cause) -> bool
     ensures { result ≡ restarts c }
 {
-    match c {
-        Cause::Enable => true,
-        Cause::Disable => true,
-        Cause::SelectD => false,
-        Cause::SelectN => false,
-        Cause::Excursion => false,
-        Cause::Exceeded => false,
-        Cause::TimeUp => false,
-    }
+    matches!(c, Cause::Enable | Cause::Disable)
 }
 
 // What of an excess becomes N time.
@@ -29,13 +20,8 @@ pub(crate) fn carried_over(c: Cause, excess: u64) -> u64
     ensures { result ≡ carried_by c excess }
 {
     match c {
-        Cause::Enable => 0,
-        Cause::Disable => 0,
-        Cause::SelectD => 0,
-        Cause::SelectN => 0,
-        Cause::Excursion => 0,
-        Cause::Exceeded => 0,
         Cause::TimeUp => excess,
+        _ => 0,
     }
 }
 
@@ -45,11 +31,8 @@ fn need_by(c: Cause, a: Attributes, n: u32) -> u32
 {
     match c {
         Cause::Enable => a.minimum_high,
-        Cause::Disable => 0,
-        Cause::SelectD => 0,
-        Cause::SelectN => need_after(a, n),
-        Cause::Excursion => need_after(a, n),
-        Cause::Exceeded => need_after(a, n),
+        Cause::Disable | Cause::SelectD => 0,
+        Cause::SelectN | Cause::Excursion | Cause::Exceeded => need_after(a, n),
         Cause::TimeUp => full_need(a),
     }
 }
@@ -59,8 +42,7 @@ fn need_in(w: Window, c: Cause, a: Attributes, s: State) -> u32
     ensures { result ≡ need_in w c a s }
 {
     match w {
-        Window::Off => 0,
-        Window::D => 0,
+        Window::Off | Window::D => 0,
         Window::N => need_by(c, a, s.spent.time),
     }
 }
@@ -69,17 +51,15 @@ fn need_in(w: Window, c: Cause, a: Attributes, s: State) -> u32
 fn start(w: Window, c: Cause, a: Attributes, s: State) -> State
     ensures { result ≡ into w c a s }
 {
-    let config = s.config;
     let need = need_in(w, c, a, s);
-    state_of(w, config, nothing_spent(), recovered(0, need))
+    state_of(w, s.config, Spent::NONE, recovered(0, need))
 }
 
 fn is_staying(c: Cause, v: Window, next: Window) -> bool
     requires { next ≡ moved_by v c }
     ensures { result ≡ stays c v }
 {
-    let again = starts_again(c);
-    same_window(next, v) & !again
+    next == v && !starts_again(c)
 }
 
 // The state after a cause, for a set in window v. Where a caller writes the window down the compiler reads the table's entry ahead.
@@ -101,8 +81,7 @@ pub(crate) fn go_from(v: Window, c: Cause, a: Attributes, s: State) -> State
 pub fn go(c: Cause, a: Attributes, s: State) -> State
     ensures { result ≡ going c a s }
 {
-    let v = s.window;
-    match v {
+    match s.window {
         Window::Off => go_from(Window::Off, c, a, s),
         Window::D => go_from(Window::D, c, a, s),
         Window::N => go_from(Window::N, c, a, s),

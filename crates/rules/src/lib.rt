@@ -1,4 +1,5 @@
-// What each item does to one set. A rule sees attributes and state, never events or the listed mark, and answers an effect.
+// What each item does to one set. A rule sees attributes and state, never events or the listed mark, and answers an effect. The two go from
+// function to function as two: a type of both would be taken apart again by each, and a record has the notes as well, which no rule may see.
 #![tactic(auto)]
 
 pub mod changes;
@@ -8,26 +9,25 @@ mod need;
 ghost use Rattle.std.specs.Prelude.{◌≡◌, ◌+◌};
 ghost use Rattle.record.specs.declared.Window.{Window};
 ghost use Rattle.rules.specs.Door.{carried_by, going};
-ghost use Rattle.rules.specs.Rules.{noting, still, only_in_d, cause_of_mode, configure, is_early, on_entering, selecting, is_over, recovering, leaving, charge, read_event, write_event, excursion_event, media_rule, tick, clearing_read};
+ghost use Rattle.rules.specs.Rules.{noting, still, only_in_d, cause_of_mode, configure, is_early, on_entering, moving, selecting, is_over, recovering, leaving, charge, read_event, write_event, excursion_event, media_rule, tick, clearing_read};
 
 use crate::changes::moved;
 use crate::door::{carried_over, go, go_from};
-use record::event::{an_excursion, and_exceeded, entering_d, no_events, warned, warning_of};
+use record::event::entering_d;
 use record::parts::{effect_of, recovered};
-use record::quantities::{capped, floored, limit_of, need_met, spent_of, with_spent};
-use record::windows::same_window;
+use record::quantities::capped;
 use record::{Attributes, Config, Effect, Events, Quantity, State, Window};
 
-// What can change a set's window.
+// What can change a set's window: the columns of the table of window changes.
 #[derive(Clone, Copy)]
 pub enum Cause {
-    Enable,
-    Disable,
-    SelectD,
-    SelectN,
-    Excursion,
-    Exceeded,
-    TimeUp,
+    Enable = 0,
+    Disable = 1,
+    SelectD = 2,
+    SelectN = 3,
+    Excursion = 4,
+    Exceeded = 5,
+    TimeUp = 6,
 }
 
 // An entry of the table of window changes. Never: that cause does not arise in that window.
@@ -35,9 +35,7 @@ pub enum Cause {
 pub enum Next {
     Never,
     Refuse,
-    ToOff,
-    ToD,
-    ToN,
+    To(Window),
 }
 
 // What the media layer reports of a set.
@@ -57,7 +55,7 @@ fn note(s: State, e: Events) -> Effect
 pub fn keep_still(s: State) -> Effect
     ensures { result ≡ still s }
 {
-    note(s, no_events())
+    note(s, Events::NONE)
 }
 
 // Enable or disable. That each cause stands in the code lets the compiler read the table's columns ahead.
@@ -75,48 +73,42 @@ fn go_by_mode(a: Attributes, s: State, on: bool) -> State
 pub fn set_mode(a: Attributes, s: State, on: bool, c: Config) -> Effect
     ensures { result ≡ configure on c a s }
 {
-    let mut t = go_by_mode(a, s, on);
-    t.config = c;
-    keep_still(t)
+    keep_still(State {
+        config: c,
+        ..go_by_mode(a, s, on)
+    })
 }
 
 // Where the need is met the table is not asked.
 pub fn is_early(s: State, c: Cause) -> bool
     ensures { result ≡ is_early c s }
 {
-    let r = s.recovery;
-    if need_met(r) {
-        return false;
-    }
-    let w = s.window;
-    let from_n = same_window(w, Window::N);
-    let to_d = same_window(moved(w, c), Window::D);
-    from_n & to_d
+    !s.recovery.is_met() && s.window == Window::N && moved(s.window, c) == Window::D
 }
 
 fn on_entering(w: Window, a: Attributes, c: Config) -> Events
     ensures { result ≡ on_entering w a c }
 {
     match w {
-        Window::Off => no_events(),
+        Window::Off | Window::N => Events::NONE,
         Window::D => entering_d(a, c),
-        Window::N => no_events(),
     }
+}
+
+// What happens where a set moves from v to w, and nothing where it does not.
+fn moving(v: Window, w: Window, e: Events) -> Events
+    ensures { result ≡ moving v w e }
+{
+    if v == w { Events::NONE } else { e }
 }
 
 #[inline(always)]
 pub fn go_to_selected(a: Attributes, s: State, c: Cause) -> Effect
     ensures { result ≡ selecting c a s }
 {
-    let v = s.window;
-    let config = s.config;
     let t = go(c, a, s);
-    let w = t.window;
-    if same_window(v, w) {
-        keep_still(t)
-    } else {
-        note(t, on_entering(w, a, config))
-    }
+    let events = on_entering(t.window, a, s.config);
+    note(t, moving(s.window, t.window, events))
 }
 
 // Reads and writes leave D past their typical, time at its maximum.
@@ -124,8 +116,7 @@ fn is_over(q: Quantity, most: u64, n: u64) -> bool
     ensures { result ≡ is_over q most n }
 {
     match q {
-        Quantity::Reads => most < n,
-        Quantity::Writes => most < n,
+        Quantity::Reads | Quantity::Writes => most < n,
         Quantity::Time => most <= n,
     }
 }
@@ -136,10 +127,10 @@ fn recover(s: State, t: u64) -> State
 {
     let need = s.recovery.need;
     let n = capped(s.recovery.time, t, need);
-    let more = recovered(n, need);
-    let mut r = s;
-    r.recovery = more;
-    r
+    State {
+        recovery: recovered(n, need),
+        ..s
+    }
 }
 
 // Out of D by a cause: through the door, and what of an excess it carries over.
@@ -155,11 +146,9 @@ fn leave_d(a: Attributes, s: State, q: Quantity, n: u64) -> State
     requires { s.window ≡ Window.D }
     ensures { result ≡ leaving q n a s }
 {
-    let most = limit_of(a, q) as u64;
-    let excess = floored(n, most);
+    let excess = n.saturating_sub(u64::from(a.limit(q)));
     match q {
-        Quantity::Reads => leave_by(Cause::Exceeded, a, s, excess),
-        Quantity::Writes => leave_by(Cause::Exceeded, a, s, excess),
+        Quantity::Reads | Quantity::Writes => leave_by(Cause::Exceeded, a, s, excess),
         Quantity::Time => leave_by(Cause::TimeUp, a, s, excess),
     }
 }
@@ -168,30 +157,30 @@ fn charge_by(a: Attributes, s: State, q: Quantity, k: u32) -> Effect
     requires { s.window ≡ Window.D }
     ensures { result ≡ charge q k a s }
 {
-    let most = limit_of(a, q) as u64;
-    let p = s.spent;
-    let c = s.config;
-    let count = spent_of(p, q) as u64;
-    let n = count + (k as u64);
-    let low = warning_of(q, warned(c, q, floored(most, count), floored(most, n)));
+    let most = u64::from(a.limit(q));
+    let count = u64::from(s.spent.of(q));
+    let n = count + u64::from(k);
+    let warns = s
+        .config
+        .warns(q, most.saturating_sub(count), most.saturating_sub(n));
+    let low = Events::warning(q, warns);
     if is_over(q, most, n) {
-        note(leave_d(a, s, q, n), and_exceeded(low))
+        note(leave_d(a, s, q, n), low.and_exceeded())
     } else {
-        note(with_spent(s, q, n as u32), low)
+        note(s.with_spent(q, n as u32), low)
     }
 }
 
 fn charge_in_d(a: Attributes, s: State, q: Quantity, k: u16) -> Effect
     ensures { result ≡ only_in_d s (charge q k a s) }
 {
-    let w = s.window;
-    match w {
-        Window::Off => keep_still(s),
-        Window::D => charge_by(a, s, q, k as u32),
-        Window::N => keep_still(s),
+    match s.window {
+        Window::Off | Window::N => keep_still(s),
+        Window::D => charge_by(a, s, q, u32::from(k)),
     }
 }
 
+// Two names for one rule, since the functions for C call each by its own.
 pub fn read_event(a: Attributes, s: State, k: u16) -> Effect
     ensures { result ≡ read_event k a s }
 {
@@ -209,19 +198,13 @@ fn excursion_from(v: Window, a: Attributes, s: State) -> Effect
     ensures { result ≡ excursion_event a s }
 {
     let t = go_from(v, Cause::Excursion, a, s);
-    let w = t.window;
-    if same_window(v, w) {
-        keep_still(t)
-    } else {
-        note(t, an_excursion())
-    }
+    note(t, moving(v, t.window, Events::EXCURSION))
 }
 
 pub fn excursion_event(a: Attributes, s: State) -> Effect
     ensures { result ≡ excursion_event a s }
 {
-    let w = s.window;
-    match w {
+    match s.window {
         Window::Off => excursion_from(Window::Off, a, s),
         Window::D => excursion_from(Window::D, a, s),
         Window::N => excursion_from(Window::N, a, s),
@@ -241,11 +224,10 @@ pub fn media_event(a: Attributes, s: State, m: Media) -> Effect
 pub fn tick_event(a: Attributes, s: State, t: u32) -> Effect
     ensures { result ≡ tick t a s }
 {
-    let w = s.window;
-    match w {
+    match s.window {
         Window::Off => keep_still(s),
         Window::D => charge_by(a, s, Quantity::Time, t),
-        Window::N => keep_still(recover(s, t as u64)),
+        Window::N => keep_still(recover(s, u64::from(t))),
     }
 }
 
@@ -253,5 +235,5 @@ pub fn tick_event(a: Attributes, s: State, t: u32) -> Effect
 pub fn clearing_read(s: State) -> Effect
     ensures { result ≡ clearing_read s }
 {
-    effect_of(s, no_events(), true)
+    effect_of(s, Events::NONE, true)
 }

@@ -1,23 +1,17 @@
-// How long N must last after a window. All numbers have 32 bits, and a product of two leaves room in 64 for one more: so nothing here
-// wraps, whatever the record.
-ghost use Rattle.std.specs.Prelude.{◌≡◌, ◌+◌, ◌*◌, ◌^◌, ◌<◌, min};
+// How long N must last after a window. All numbers have 32 bits, so that a product of two fits into 64: nothing here wraps, whatever the
+// record.
+ghost use Rattle.std.specs.Prelude.{◌≡◌, ◌+◌, ◌-◌, ◌*◌, ◌<◌, min};
 ghost use Rattle.rules.specs.Need.{up_by, need_after};
 
 use record::Attributes;
-use record::quantities::floored;
 
-fn product(x: u64, s: u32) -> u64
-    requires { x < 2 ^ 32 }
-    ensures { result ≡ x * s }
+// low, and of what high is above low as much as n is of most, rounded up.
+fn between(low: u32, high: u32, n: u32, most: u32) -> u32
+    requires { n < most }
+    ensures { result ≡ low + up_by ((high - low) * n) most }
 {
-    x * (s as u64)
-}
-
-fn rounded_up(x: u64, most: u32) -> u64
-    requires { (x + most < 2 ^ 64) × (0 < most) }
-    ensures { result ≡ up_by x most }
-{
-    (x + ((most - 1) as u64)) / (most as u64)
+    let product = u64::from(high.saturating_sub(low)) * u64::from(n);
+    (u64::from(low) + product.div_ceil(u64::from(most))) as u32
 }
 
 // After a window that lasted maximum: no division. A maximum of 0 is in no legal record.
@@ -27,22 +21,15 @@ pub(crate) fn full_need(a: Attributes) -> u32
     if a.time_maximum == 0 {
         return a.minimum_low;
     }
-    if a.minimum_low < a.minimum_high {
-        a.minimum_high
-    } else {
-        a.minimum_low
-    }
+    a.minimum_low.max(a.minimum_high)
 }
 
 // After n ms in D, of which no more than maximum count.
 pub(crate) fn need_after(a: Attributes, n: u32) -> u32
     ensures { result ≡ need_after a (min n a.time_maximum) }
 {
-    let most = a.time_maximum;
-    if n < most {
-        let low = a.minimum_low as u64;
-        let more = floored(a.minimum_high as u64, low);
-        return (low + rounded_up(product(more, n), most)) as u32;
+    if n < a.time_maximum {
+        return between(a.minimum_low, a.minimum_high, n, a.time_maximum);
     }
     full_need(a)
 }

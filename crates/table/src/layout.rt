@@ -3,10 +3,8 @@ ghost use Rattle.std.specs.Prelude.{◌≡◌};
 ghost use Rattle.record.specs.Parts.{id_of};
 ghost use Rattle.table.specs.Layout.{field_words, words_of, window_in, attributes_at, state_at, notes_at, record_of};
 
-use record::event::{bits_of, events_in};
 use record::parts::{config_of, recovered, spent, state_of};
-use record::windows::window_no;
-use record::{Attributes, Capacity, Group, Notes, Record, SetId, State, Window};
+use record::{Attributes, Capacity, Events, Group, Notes, Record, SetId, State, Window};
 
 // The header: the number of this layout, which every change of it raises, the number of sets, and the desk.
 pub const HEADER: usize = 10;
@@ -32,9 +30,9 @@ fn field_words(r: Record) -> [u64; ROW]
     let attributes = r.attributes;
     let state = r.state;
     let config = state.config;
-    let enabled = bits_of(config.enabled);
-    let window = window_no(state.window) as u64;
-    let events = bits_of(r.notes.events);
+    let enabled = u64::from(config.enabled);
+    let window = u64::from(state.window);
+    let events = u64::from(r.notes.events);
     [
         u64::from(attributes.id.0),
         u64::from(attributes.group.0),
@@ -67,13 +65,7 @@ fn field_words(r: Record) -> [u64; ROW]
 fn window_in(n: u64) -> Window
     ensures { result ≡ window_in n }
 {
-    if n == 0 {
-        Window::Off
-    } else if n == 1 {
-        Window::D
-    } else {
-        Window::N
-    }
+    Window::try_from(n).unwrap_or(Window::N)
 }
 
 fn attributes_at(a: [u64; ROW]) -> Attributes
@@ -104,7 +96,7 @@ fn state_at(a: [u64; ROW]) -> State
     ensures { result ≡ state_at a }
 {
     let window = window_in(a[17]);
-    let enabled = events_in(a[13]);
+    let enabled = Events::from_bits_truncate(a[13]);
     let config = config_of(enabled, a[14], a[15], a[16]);
     let spent = spent(
         (a[18] % 4294967296) as u32,
@@ -118,7 +110,7 @@ fn state_at(a: [u64; ROW]) -> State
 fn notes_at(a: [u64; ROW]) -> Notes
     ensures { result ≡ notes_at a }
 {
-    let events = events_in(a[23]);
+    let events = Events::from_bits_truncate(a[23]);
     Notes {
         events: events,
         listed: a[24] == 1,

@@ -4,8 +4,8 @@ ghost use Rattle.table.specs.Table.{legal_after};
 ghost use Rattle.table.specs.LegalWords.{capacities_legal, statics_legal, within_bits, changing_legal, notes_legal};
 
 use crate::layout::ROW;
-use record::event::{bits_of, events_in};
-use record::legal::{DAY_MS, NUMBER_MAXIMUM, TYPICAL_MAXIMUM, word_in_range};
+use record::Events;
+use record::legal::{DAY_MS, NUMBER_MAXIMUM, TYPICAL_MAXIMUM, in_range};
 
 const FOUR_BYTES_MAXIMUM: u64 = 4294967295;
 
@@ -22,16 +22,16 @@ fn capacities_legal(a: [u64; ROW]) -> bool
 fn statics_legal(a: [u64; ROW]) -> bool
     ensures { result ≡ statics_legal a }
 {
-    let id = word_in_range(NUMBER_MAXIMUM, a[0]);
-    let group = word_in_range(NUMBER_MAXIMUM, a[1]);
+    let id = in_range(NUMBER_MAXIMUM, a[0]);
+    let group = in_range(NUMBER_MAXIMUM, a[1]);
     let random = a[2] <= FOUR_BYTES_MAXIMUM;
     let optimal = a[3] <= FOUR_BYTES_MAXIMUM;
     let capacities = capacities_legal(a);
-    let reads = word_in_range(TYPICAL_MAXIMUM, a[8]);
-    let writes = word_in_range(TYPICAL_MAXIMUM, a[9]);
-    let time = word_in_range(DAY_MS, a[10]);
-    let high = word_in_range(DAY_MS, a[11]);
-    let low = word_in_range(DAY_MS, a[12]);
+    let reads = in_range(TYPICAL_MAXIMUM, a[8]);
+    let writes = in_range(TYPICAL_MAXIMUM, a[9]);
+    let time = in_range(DAY_MS, a[10]);
+    let high = in_range(DAY_MS, a[11]);
+    let low = in_range(DAY_MS, a[12]);
     let sizes = id & group & random & optimal & capacities;
     sizes & reads & writes & time & high & low & (a[12] <= a[11])
 }
@@ -39,8 +39,7 @@ fn statics_legal(a: [u64; ROW]) -> bool
 fn within_bits(x: u64) -> bool
     ensures { result ≡ within_bits x }
 {
-    let e = events_in(x);
-    x == bits_of(e)
+    x == u64::from(Events::from_bits_truncate(x))
 }
 
 // The limit where it holds, or the one elsewhere, so that the test against it needs no branch.

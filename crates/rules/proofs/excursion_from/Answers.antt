@@ -1,17 +1,7 @@
-use mathlib.Core.Path.{sym, ap, ◌∙◌}
-use Rattle.record.specs.declared.State.{State}
 use Rattle.rules.specs.declared.Cause.TheVariants.{Excursion}
 use Rattle.rules.proofs.Leads.{leads}
 use Rattle.rules.proofs.excursion_from.Goals as goal
 
-pub returns-then-same_window : goal.returns-then-same_window
-returns-then-same_window c =
-    let w = ap (λ (z : State). z.window) c.go_from-t.ensures ∙ leads Excursion c.args.a c.args.s in
-    let e = rw (w, ← c.requires) at (sym c.same_window.ensures ∙ c.if-same_window.true) in
-    simp (c.keep_still.ensures, c.go_from-t.ensures, e)
-
-pub returns-else-same_window : goal.returns-else-same_window
-returns-else-same_window c =
-    let w = ap (λ (z : State). z.window) c.go_from-t.ensures ∙ leads Excursion c.args.a c.args.s in
-    let e = rw (w, ← c.requires) at (sym c.same_window.ensures ∙ c.if-same_window.false) in
-    simp (c.note.ensures, c.an_excursion.ensures, c.go_from-t.ensures, e)
+pub returns : goal.returns
+returns c =
+    simp (c.note.ensures, c.moving.ensures, c.go_from-t.ensures, leads Excursion c.args.a c.args.s, ← c.requires)

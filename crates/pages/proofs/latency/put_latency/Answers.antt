@@ -1,5 +1,4 @@
 -- The marks, the limits and the estimates put one after another.
-use mathlib.Core.Path.{◌∙◌}
 use mathlib.Core.List.{[], ◌∷◌}
 use Rattle.octets.specs.Pages.{fields_at}
 use Rattle.octets.proofs.Pages.{puts_by, groups_by}
@@ -15,6 +14,6 @@ returns c =
     let limits = fields_at latency_limits (limits_of r.attributes) in
     let estimates = fields_at latency_estimates (estimates_of r.attributes r.state) in
     groups_by (marks ∷ limits ∷ estimates ∷ []) page
-    _ (puts_by marks page _ _ (c.from_size.ensures ∙ c.window_no.ensures.0) c.put_at.ensures _ _ c.bits_of.ensures.0 c.put_at-2.ensures)
+    _ (puts_by marks page _ _ c.from.ensures c.put_at.ensures _ _ c.from-2.ensures.0 c.put_at-2.ensures)
     _ c.put_limits.ensures
     _ c.put_estimates.ensures
