@@ -39,8 +39,7 @@ fn statics_legal(a: [u64; ROW]) -> bool
 fn within_bits(x: u64) -> bool
     ensures { result ≡ within_bits x }
 {
-    let e = events_in(x);
-    x == bits_of(e)
+    x == bits_of(events_in(x))
 }
 
 // The limit where it holds, or the one elsewhere, so that the test against it needs no branch.

@@ -10,7 +10,7 @@ returns-then-statics_legal c =
     let a = c.args in
     elim c.if-before-a.branch [
       | then-before-a w ↦
-            simp (legal_after_lem a.a (search rules) a.before, c.notes_legal.ensures, c.changing_legal.ensures, ← w.statics_legal.ensures, sym w.value-is ∙ c.if-statics_legal.true, lt-ltb _ _ w.if-before-a.true)
+          simp (legal_after_lem a.a (search rules) a.before, c.notes_legal.ensures, c.changing_legal.ensures, ← w.statics_legal.ensures, sym w.value-is ∙ c.if-statics_legal.true, lt-ltb _ _ w.if-before-a.true)
       | else-before-a w ↦ absurd (clash (sym (w.value-is ∙ le-ltb _ _ w.if-before-a.false) ∙ c.if-statics_legal.true))
     ]
 
