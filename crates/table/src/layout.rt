@@ -112,7 +112,7 @@ fn notes_at(a: [u64; ROW]) -> Notes
 {
     let events = Events::from_bits_truncate(a[23]);
     Notes {
-        events: events,
+        events,
         listed: a[24] == 1,
     }
 }
@@ -124,9 +124,9 @@ pub fn record_of(a: [u64; ROW]) -> Record
     let state = state_at(a);
     let notes = notes_at(a);
     Record {
-        attributes: attributes,
-        state: state,
-        notes: notes,
+        attributes,
+        state,
+        notes,
     }
 }
 

@@ -81,12 +81,5 @@ fn notes_legal(a: [u64; ROW]) -> bool
 pub fn follows(before: u64, a: [u64; ROW]) -> bool
     ensures { result ≡ legal_after before a }
 {
-    if before < a[0] {
-        if statics_legal(a) {
-            let changing = changing_legal(a);
-            let notes = notes_legal(a);
-            return changing & notes;
-        }
-    }
-    false
+    before < a[0] && statics_legal(a) && changing_legal(a) & notes_legal(a)
 }
