@@ -4,7 +4,7 @@ ghost use Rattle.pages.specs.Bodies.{body};
 ghost use Rattle.steps.specs.SetUp.{with_body, first_bodies, SetUp};
 ghost use Rattle.by_reference.specs.Lists.{bodies_of};
 
-use octets::{copy_part, least};
+use octets::copy_part;
 use pages::bodies::{BODY, body_of};
 use record::Attributes;
 use table::MAX_SETS;
@@ -27,7 +27,7 @@ fn put_body(bytes: &mut [u8], i: usize, a: Attributes)
 fn set_up_from(table: &mut [u64], bytes: &[u8], n: usize) -> u16
     ensures { SetUp (first_bodies bytes.now n) table.old table.new result }
 {
-    let end = least(n, bytes.len() / BODY) * BODY;
+    let end = n.min(bytes.len() / BODY) * BODY;
     card::set_up::set_up(table, &bytes[0..end])
 }
 

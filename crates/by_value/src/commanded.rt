@@ -17,7 +17,7 @@ use commands::shapes::needs_out;
 use commands::status_table::found_status;
 use commands::{Command, Kind, enables, offset_of, retains, selects_d};
 use pages::features::{FEATURE_SIZE, config_in, config_onto};
-use pages::latency::{LATENCY_SIZE, latency_onto, latency_page};
+use pages::latency::{LATENCY_SIZE, latency_onto};
 use record::event::settle;
 use record::{Attributes, Effect, Record, State, Window};
 use replies::{Reply, done, give};
@@ -149,7 +149,8 @@ fn hand_latency(r: Record, c: Command, answer: &mut [u8]) -> Reply
             return give(0, n);
         }
     }
-    let page = latency_page(r);
+    let mut page = [0u8; LATENCY_SIZE];
+    latency_onto(r, &mut page);
     replies::hand_out(0, 0, &page, from, n, answer)
 }
 

@@ -3,10 +3,19 @@ ghost use Rattle.std.specs.Prelude.{◌≡◌, ◌≤◌, length};
 ghost use Rattle.std.proofs.lemmas.List.Edits.{sets};
 ghost use Rattle.card_c.specs.Entries.{reply_size, reply_page, reply_part};
 
+use octets::Place;
 use octets::casts::{from_short, from_size, from_u32};
 use replies::{Notice, notice_no, to_no, told_no};
 
 const REPLY: usize = 16;
+
+const PLACES: [Place; 5] = [
+    Place { at: 0, width: 4 }, // dword 0
+    Place { at: 4, width: 4 }, // length of the data
+    Place { at: 8, width: 2 }, // whether a notice goes out
+    Place { at: 10, width: 2 }, // the request's identifier
+    Place { at: 12, width: 4 }, // the notice's dword 0
+];
 
 fn reply_page(dword: u32, len: usize, notice: Notice) -> [u8; REPLY]
     ensures { result ≡ reply_page dword len notice }
@@ -17,16 +26,7 @@ fn reply_page(dword: u32, len: usize, notice: Notice) -> [u8; REPLY]
     let to = from_short(to_no(notice));
     let word = from_u32(notice_no(notice));
     let mut page = [0u8; REPLY];
-    octets::fill(
-        &mut page,
-        &[
-            [0, 4, dword],
-            [4, 4, len],
-            [8, 2, told],
-            [10, 2, to],
-            [12, 4, word],
-        ],
-    );
+    octets::fill(&mut page, 0, &PLACES, &[dword, len, told, to, word]);
     page
 }
 

@@ -2,18 +2,17 @@
 use mathlib.Core.Path.{◌≡◌, refl, sym, ap, ap₂, ◌∙◌}
 use mathlib.Core.Bool.{true}
 use mathlib.Core.List.{List, [], ◌∷◌, ◌++◌}
-use mathlib.Core.Logic.{inl, inr}
-use Prim.Native.Nat.{ℕ, zero, suc, ◌+◌, ◌-◌, ◌≤◌, ◌<◌}
+use mathlib.Core.Logic.{◌⊎◌, inl, inr, ⊎_elim}
+use Prim.Native.Nat.{ℕ, zero, suc, ◌+◌, ◌-◌, ◌≤◌, min}
 use native.Mathlib.Omega.{arith}
-use native.Mathlib.Nat.{sub-zero, zero-add}
-use native.Mathlib.Numerals.{add-one}
+use native.Mathlib.Nat.{zero-add, eq-zero-or-pos}
 use lib.Dec.{leb}
-use lib.ListN.{length, get_or, set, drop, replicate, length-set, length-replicate, drop_of_length-le}
-use lib.Seq.{sets, sets-eq, length-sets, drop-cons}
+use lib.ListN.{length, drop, replicate, length-replicate, drop_of_length-le}
+use lib.Seq.{sets, sets-eq, length-sets}
 use borrow.Author.Tests.{leb-true, le-leb}
 use Rattle.octets.specs.Octets.{bytes_of, number_of, part}
 use Rattle.octets.specs.declared.Place.{Place}
-use Rattle.octets.specs.Pages.{Field, field, fields_at, places_from, field_of, fields_of, puts, place, tidy, readings, Fit, values}
+use Rattle.octets.specs.Pages.{Field, field, fields_at, places_from, puts, place, tidy, readings, Fit, values}
 use Rattle.octets.proofs.Runs.{sets_append, part_into}
 use Rattle.octets.proofs.PutAndGet.{length_bytes, get_put, get_other}
 use Rattle.octets.proofs.JoinedTests.{both}
@@ -90,20 +89,25 @@ puts_window (p ∷ ps) (v ∷ vs) l from n h =
     ∙ ap (λ (m : List ℕ). puts m (fields_at (places_from 0 ps) vs))
     (part_into (bytes_of p.width v) l from p.at n (omega (arith, t.0, z, length_bytes p.width v)) ∙ ap (λ (k : ℕ). sets (part l from n) k (bytes_of p.width v)) (sym z))
 
--- a turn of the loop that puts a table's rows
-module _ (rows : List (List ℕ)) (i : ℕ) where
-  rows_from_lem : i < length rows → fields_of (drop i rows) ≡ field_of (get_or rows i []) ∷ fields_of (drop (i + 1) rows)
-  rows_from_lem h = rw (add-one, drop-cons rows i [] h)
+none_at : (ps : List Place) → fields_at ps [] ≡ []
+none_at [] = refl
+none_at (p ∷ ps) = refl
 
-  pub fill_fits : (size : ℕ) → i < length rows → tidy 0 size (fields_of (drop i rows)) ≡ true
-      → ((field_of (get_or rows i [])).at + (field_of (get_or rows i [])).width ≤ size) × (tidy 0 size (fields_of (drop (i + 1) rows)) ≡ true)
-  fill_fits size h t = tidy_first (field_of (get_or rows i [])) (fields_of (drop (i + 1) rows)) size (rw (rows_from_lem h) at t)
+-- a turn of the loop that puts numbers at places
+module _ (from : ℕ) (ps : List Place) (vs : List ℕ) where
+  ends : (n : ℕ) → n ≡ min (length ps) (length vs) → (length ps ≤ n) ⊎ (length vs ≤ n)
+  ends n e = ⊎_elim (λ z. inl (omega arith)) (λ z. inr (omega arith)) (eq-zero-or-pos (length ps - n))
 
-  pub fill_turn : (page : List ℕ) → i < length rows → puts page (fields_of (drop i rows)) ≡ puts page (field_of (get_or rows i []) ∷ fields_of (drop (i + 1) rows))
-  fill_turn page h = rw (rows_from_lem h)
+  -- what is left to put after n turns
+  abbrev pub rest_of : ℕ → List Field
+  rest_of n = fields_at (places_from from (drop n ps)) (drop n vs)
 
-  pub fill_end : (page : List ℕ) → length rows ≤ i → puts page (fields_of (drop i rows)) ≡ page
-  fill_end page h = rw (drop_of_length-le rows h)
+  pub fill_end : (page : List ℕ) (n : ℕ) → n ≡ min (length ps) (length vs) → puts page (rest_of n) ≡ page
+  fill_end page n e =
+      ⊎_elim
+      (λ h. let e : drop n ps ≡ [] = drop_of_length-le ps h in rw e)
+      (λ h. let e : drop n vs ≡ [] = drop_of_length-le vs h in rw (e, none_at (places_from from (drop n ps))))
+      (ends n e)
 
 pub placed : (size : ℕ) (fs : List Field) → puts (replicate size 0) fs ≡ place size fs
 unfolding place
@@ -111,25 +115,9 @@ placed size fs = refl
 
 -- ---- a page made in place, on the first bytes of a list
 
-zero_turn : (l : List ℕ) (n i : ℕ) → i < n → sets (set l i 0) (i + 1) (replicate (n - (i + 1)) 0) ≡ sets l i (replicate (n - i) 0)
-zero_turn l n i h = let e : n - i ≡ suc (n - (i + 1)) = omega arith in rw (e, add-one)
-
--- what holds at each turn of the loop that clears
-pub record Clearing (l₀ : List ℕ) (n : ℕ) (l : List ℕ) (i : ℕ) : Type 0 where
-  pub within : i ≤ n
-  pub long : length l ≡ length l₀
-  pub same : sets l i (replicate (n - i) 0) ≡ sets l₀ 0 (place n [])
-
-module _ (l₀ : List ℕ) (n : ℕ) where
-  pub clear_start : Clearing l₀ n l₀ 0
-  clear_start = record { within = omega arith; long = refl; same = rw sub-zero (ap (sets l₀ 0) (placed n [])) }
-
-  module _ (l : List ℕ) (i : ℕ) (c : Clearing l₀ n l i) where
-    pub clear_turn : i < n → Clearing l₀ n (set l i 0) (i + 1)
-    clear_turn h = record { within = omega arith; long = length-set l i 0 ∙ c.long; same = zero_turn l n i h ∙ c.same }
-
-    pub clear_end : n ≤ i → l ≡ sets l₀ 0 (place n [])
-    clear_end h = let e : n - i ≡ 0 = omega arith in rw e at c.same
+pub blank : (size : ℕ) → replicate size 0 ≡ place size []
+unfolding place
+blank size = refl
 
 puts_blank : (size : ℕ) (fs : List Field) → puts (place size []) fs ≡ place size fs
 unfolding place
@@ -171,42 +159,6 @@ pub made_onto : (size : ℕ) (fs : List Field) (l start last : List ℕ) → tid
     → start ≡ sets l 0 (place size []) → last ≡ puts start fs → last ≡ sets l 0 (place size fs)
 made_onto size fs l start last h room es el = el ∙ ap (λ (m : List ℕ). puts m fs) es ∙ puts_onto size fs l h room
 
--- what straight calls of `put` make, one for each field: the page after it, what its value is, and what the call ensures
-abbrev pub PutsBy : List Field → List Field → List ℕ → List ℕ → Type 0
-PutsBy all [] start page = page ≡ puts start all
-PutsBy all (f ∷ fs) start page =
-    (next : List ℕ) (v : ℕ) → v ≡ f.value → next ≡ sets page f.at (bytes_of f.width v) → PutsBy all fs start next
-
-by : (all fs : List Field) (start page : List ℕ) → ((last : List ℕ) → last ≡ puts page fs → last ≡ puts start all) → PutsBy all fs start page
-by all [] start page k = k page refl
-by all (f ∷ fs) start page k =
-    λ next v w e.
-    by all fs start next
-    (λ last h. k last (h ∙ ap (λ (l : List ℕ). puts l fs) (e ∙ ap (λ (x : ℕ). sets page f.at (bytes_of f.width x)) w)))
-
-pub puts_by : (fs : List Field) (start : List ℕ) → PutsBy fs fs start start
-puts_by fs start = by fs fs start start (λ last h. h)
-
 pub puts_more : (fs gs : List Field) (page : List ℕ) → puts page (fs ++ gs) ≡ puts (puts page fs) gs
 puts_more [] gs page = refl
 puts_more (f ∷ fs) gs page = puts_more fs gs (sets page f.at (bytes_of f.width f.value))
-
-abbrev pub joined : List (List Field) → List Field
-joined [] = []
-joined (fs ∷ rest) = fs ++ joined rest
-
--- the same of calls that put several fields each
-abbrev pub GroupsBy : List Field → List (List Field) → List ℕ → List ℕ → Type 0
-GroupsBy all [] start page = page ≡ puts start all
-GroupsBy all (fs ∷ rest) start page = (next : List ℕ) → next ≡ puts page fs → GroupsBy all rest start next
-
-in_groups : (all : List Field) (gs : List (List Field)) (start page : List ℕ)
-    → ((last : List ℕ) → last ≡ puts page (joined gs) → last ≡ puts start all) → GroupsBy all gs start page
-in_groups all [] start page k = k page refl
-in_groups all (fs ∷ rest) start page k =
-    λ next e.
-    in_groups all rest start next
-    (λ last h. k last (h ∙ ap (λ (l : List ℕ). puts l (joined rest)) e ∙ sym (puts_more fs (joined rest) page)))
-
-pub groups_by : (gs : List (List Field)) (start : List ℕ) → GroupsBy (joined gs) gs start start
-groups_by gs start = in_groups (joined gs) gs start start (λ last h. h)

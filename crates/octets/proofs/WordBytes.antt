@@ -15,46 +15,6 @@ use Rattle.octets.proofs.Runs.{sets_self, drop_sets}
 use Rattle.octets.proofs.PutAndGet.{length_bytes}
 use Rattle.octets.proofs.Below.{below_rest, part_below}
 
--- a part, its first element apart
-part_cons : (l : List ℕ) (at n : ℕ) → at < length l → part l at (suc n) ≡ get_or l at 0 ∷ part l (at + 1) n
-part_cons l at n h = rw (drop-cons l at 0 h, add-one)
-
--- a word as the sum of its bytes
-pub word_sum :
-    (l : List ℕ) (at : ℕ) → at + word_size ≤ length l
-    → get_or l at 0
-    + get_or l (at + 1) 0 * 0x100
-    + get_or l (at + 2) 0 * 0x10000
-    + get_or l (at + 3) 0 * 0x1000000
-    + get_or l (at + 4) 0 * 0x100000000
-    + get_or l (at + 5) 0 * 0x10000000000
-    + get_or l (at + 6) 0 * 0x1000000000000
-    + get_or l (at + 7) 0 * 0x100000000000000
-    ≡ number_of (part l at word_size)
-word_sum l at room =
-    let e2 : at + 1 + 1 ≡ at + 2 = omega arith in
-    let e3 : at + 2 + 1 ≡ at + 3 = omega arith in
-    let e4 : at + 3 + 1 ≡ at + 4 = omega arith in
-    let e5 : at + 4 + 1 ≡ at + 5 = omega arith in
-    let e6 : at + 5 + 1 ≡ at + 6 = omega arith in
-    let e7 : at + 6 + 1 ≡ at + 7 = omega arith in
-    rw (
-      part_cons l at 7 (omega arith),
-      part_cons l (at + 1) 6 (omega arith),
-      e2,
-      part_cons l (at + 2) 5 (omega arith),
-      e3,
-      part_cons l (at + 3) 4 (omega arith),
-      e4,
-      part_cons l (at + 4) 3 (omega arith),
-      e5,
-      part_cons l (at + 5) 2 (omega arith),
-      e6,
-      part_cons l (at + 6) 1 (omega arith),
-      e7,
-      part_cons l (at + 7) 0 (omega arith),
-    )
-    (omega arith)
 
 pub in_turn : (words bytes : List ℕ) (at i n : ℕ) → i < n
     → sets (set words i (number_of (part bytes at word_size))) (i + 1) (words_from bytes (at + word_size) (n - (i + 1))) ≡ sets words i (words_from bytes at (n - i))

@@ -1,5 +1,5 @@
 -- A page as a table of fields: a page of zeros with numbers put at their places.
-use Rattle.std.specs.Prelude.{Bool, ◌&&◌, List, [], ◌∷◌, ℕ, ◌+◌, ◌^◌, ◌<◌, leb, get_or, replicate}
+use Rattle.std.specs.Prelude.{Bool, ◌&&◌, List, [], ◌∷◌, ℕ, ◌+◌, ◌^◌, ◌<◌, ◌≤◌, leb, replicate}
 use Rattle.std.proofs.lemmas.List.Edits.{sets}
 use Rattle.octets.specs.Octets.{bytes_of, number_of, part}
 use Rattle.octets.specs.declared.Place.{Place}
@@ -49,13 +49,10 @@ abbrev pub tidy : ℕ → ℕ → List Field → Bool
 tidy from size [] = leb from size
 tidy from size (f ∷ fs) = leb from f.at && tidy (f.at + f.width) size fs
 
--- a table of fields as code holds it: a row of place, width and value for each
-abbrev pub field_of : List ℕ → Field
-field_of row = field (get_or row 0 0) (get_or row 1 0) (get_or row 2 0)
-
-abbrev pub fields_of : List (List ℕ) → List Field
-fields_of [] = []
-fields_of (row ∷ rows) = field_of row ∷ fields_of rows
+-- each place of what starts at `from` ends within the page
+abbrev pub Within : ℕ → ℕ → List Place → Type 0
+Within size from [] = Unit
+Within size from (p ∷ ps) = (from + p.at + p.width ≤ size) × Within size from ps
 
 -- ---- reading a page back
 

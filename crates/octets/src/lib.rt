@@ -7,28 +7,36 @@ pub mod cells;
 pub mod numbers;
 pub mod words;
 
-ghost use Rattle.std.specs.Prelude.{◌≡◌, true, [], ◌+◌, ◌<◌, ◌≤◌, min, length, get_or};
+ghost use Rattle.std.specs.Prelude.{◌≡◌, [], ◌+◌, ◌≤◌, length};
 ghost use Rattle.std.proofs.lemmas.List.Edits.{sets};
 ghost use Rattle.octets.specs.Octets.{bytes_of, number_of, part, padded};
-ghost use Rattle.octets.specs.Pages.{fields_of, puts, place, tidy};
+ghost use Rattle.octets.specs.Pages.{Within, fields_at, places_from, puts, place, read_at};
 
-use crate::casts::from_byte;
-use crate::words::WORD;
+use crate::numbers::{short, word};
+use crate::words::word_at;
 
-// The lowest `width` bytes of `v`, lowest first, from place `at`.
+// The lowest `width` bytes of `v`, lowest first, from place `at`. It promises any width, and `to_le_bytes` gives eight bytes.
 pub fn put(buf: &mut [u8], at: usize, width: usize, v: u64)
     requires { at + width ≤ length buf.old }
     ensures { buf.new ≡ sets buf.old at (bytes_of width v) }
 {
-    let mut to = at;
-    let mut x = v;
-    let mut left = width;
-    while 0 < left {
-        buf[to] = (x % 256) as u8;
-        to += 1;
-        x = x / 256;
-        left -= 1;
+    let mut rest = v;
+    for byte in &mut buf[at..at + width] {
+        *byte = (rest % 256) as u8;
+        rest /= 256;
     }
+}
+
+// The number in the `width` bytes from place `at`. By hand, and not `from_le_bytes`: the must-fail edit `base_255` holds the base.
+pub fn get(buf: &[u8], at: usize, width: usize) -> u64
+    requires { (at + width ≤ length buf.now) × (width ≤ 8) }
+    ensures { result ≡ number_of (part buf.now at width) }
+{
+    let mut x = 0;
+    for i in (0..width).rev() {
+        x = x * 256 + u64::from(buf[at + i]);
+    }
+    x
 }
 
 // Where a number lies on a page, and how many bytes it takes.
@@ -38,32 +46,35 @@ pub struct Place {
     pub width: usize,
 }
 
-// A number put at a place of what starts at `from`.
-pub fn put_at(page: &mut [u8], from: usize, p: Place, v: u64)
-    requires { from + p.at + p.width ≤ length page.old }
-    ensures { page.new ≡ sets page.old (from + p.at) (bytes_of p.width v) }
-{
-    put(page, from + p.at, p.width, v);
-}
-
-// The number in the `width` bytes from place `at`.
-pub fn get(buf: &[u8], at: usize, width: usize) -> u64
-    requires { (at + width ≤ length buf.now) × (width ≤ 8) }
-    ensures { result ≡ number_of (part buf.now at width) }
-{
-    let mut x: u64 = 0;
-    let mut left = width;
-    while 0 < left {
-        left -= 1;
-        x = x * 256 + from_byte(buf[at + left]);
+// The page, or what lies on it, starts at `from`.
+impl Place {
+    pub fn put(self, page: &mut [u8], from: usize, v: u64)
+        requires { from + self.at + self.width ≤ length page.old }
+        ensures { page.new ≡ sets page.old (from + self.at) (bytes_of self.width v) }
+    {
+        put(page, from + self.at, self.width, v);
     }
-    x
-}
 
-pub fn least(a: usize, b: usize) -> usize
-    ensures { result ≡ min a b }
-{
-    if a < b { a } else { b }
+    pub fn short(self, bytes: &[u8], from: usize) -> u16
+        requires { (self.width ≡ 2) × (from + self.at + 2 ≤ length bytes.now) }
+        ensures { result ≡ read_at bytes.now from self }
+    {
+        short(bytes, from + self.at)
+    }
+
+    pub fn dword(self, bytes: &[u8], from: usize) -> u32
+        requires { (self.width ≡ 4) × (from + self.at + 4 ≤ length bytes.now) }
+        ensures { result ≡ read_at bytes.now from self }
+    {
+        word(bytes, from + self.at)
+    }
+
+    pub fn word(self, bytes: &[u8], from: usize) -> u64
+        requires { (self.width ≡ 8) × (from + self.at + 8 ≤ length bytes.now) }
+        ensures { result ≡ read_at bytes.now from self }
+    {
+        word_at(bytes, from + self.at)
+    }
 }
 
 // The first n bytes of the answer become the page's from place `from`, with zeros past its end.
@@ -71,16 +82,9 @@ pub fn copy_part(page: &[u8], from: usize, n: usize, answer: &mut [u8])
     requires { (from ≤ length page.now) × (n ≤ length answer.old) }
     ensures { answer.new ≡ sets answer.old 0 (padded page.now from n) }
 {
-    let m = least(page.len() - from, n);
-    let mut i = 0;
-    while i < m {
-        answer[i] = page[from + i];
-        i += 1;
-    }
-    while i < n {
-        answer[i] = 0;
-        i += 1;
-    }
+    let m = n.min(page.len() - from);
+    answer[..m].copy_from_slice(&page[from..from + m]);
+    answer[m..n].fill(0);
 }
 
 // The first n bytes zero: a page with no field on it.
@@ -88,11 +92,7 @@ pub fn clear(buf: &mut [u8], n: usize)
     requires { n ≤ length buf.old }
     ensures { buf.new ≡ sets buf.old 0 (place n []) }
 {
-    let mut i = 0;
-    while i < n {
-        buf[i] = 0;
-        i += 1;
-    }
+    buf[..n].fill(0);
 }
 
 // A run of words, copied to place `at`.
@@ -100,36 +100,15 @@ pub fn copy_words(to: &mut [u64], at: usize, src: &[u64])
     requires { at + length src.now ≤ length to.old }
     ensures { to.new ≡ sets to.old at src.now }
 {
-    let mut i = 0;
-    while i < src.len() {
-        to[at + i] = src[i];
-        i += 1;
-    }
+    to[at..at + src.len()].copy_from_slice(src);
 }
 
-// One field: its place, its width and its value.
-fn put_row(page: &mut [u8], row: [u64; 3])
-    requires { get_or row 0 0 + get_or row 1 0 ≤ length page.old }
-    ensures { page.new ≡ sets page.old (get_or row 0 0) (bytes_of (get_or row 1 0) (get_or row 2 0)) }
+// Numbers put at the places of what starts at `from`, in order.
+pub fn fill(page: &mut [u8], from: usize, places: &[Place], values: &[u64])
+    requires { Within (length page.old) from places.now }
+    ensures { page.new ≡ puts page.old (fields_at (places_from from places.now) values.now) }
 {
-    let at = row[0] as usize;
-    let width = row[1] as usize;
-    // With a constant width the compiler stores a word's bytes at once.
-    if width == WORD {
-        put(page, at, WORD, row[2]);
-    } else {
-        put(page, at, width, row[2]);
-    }
-}
-
-// The fields of a table, put on a page in order.
-pub fn fill(page: &mut [u8], rows: &[[u64; 3]])
-    requires { tidy 0 (length page.old) (fields_of rows.now) ≡ true }
-    ensures { page.new ≡ puts page.old (fields_of rows.now) }
-{
-    let mut i = 0;
-    while i < rows.len() {
-        put_row(page, rows[i]);
-        i += 1;
+    for (p, v) in places.iter().zip(values) {
+        p.put(page, from, *v);
     }
 }

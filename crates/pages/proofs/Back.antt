@@ -19,7 +19,6 @@ use Rattle.octets.proofs.Below.{part_below}
 use Rattle.octets.proofs.WordBytes.{bytes_number}
 use Rattle.octets.proofs.Pages.{placed, read_back}
 use Rattle.record.specs.declared.Attributes.{Attributes}
-use Rattle.record.specs.declared.Capacity.{Capacity}
 use Rattle.record.specs.declared.Events.{Events}
 use Rattle.record.specs.declared.Config.{Config}
 use Rattle.record.specs.declared.Window.{Window}
@@ -35,7 +34,7 @@ use Rattle.record.specs.Legal.{typical_maximum, day_ms, legal_attributes}
 use Rattle.record.specs.Event.{bit, bits_of, events_in, estimate}
 use Rattle.record.proofs.EventBits.{events_back, masked}
 use Rattle.octets.specs.Numbers.{number_at}
-use Rattle.pages.specs.Capacities.{low_half, high_half, capacity_in}
+use Rattle.pages.specs.Capacities.{low_half, high_half}
 use Rattle.pages.specs.Bodies.{body_size, body_id, body_group, body_random_read, body_optimal_write, body_total, body_unallocated, body_reads, body_writes, body_time, body_high, body_low, body_fields, body, attributes_in, kept_of, Sized}
 use Rattle.pages.specs.Latency.{latency_size, latency_fields, latency_page}
 use Rattle.pages.specs.Features.{feature_size, config_enabled, config_reads, config_writes, config_time, config_places, config_fields, config_page, config_in, handed_back, DataBack, Words}
@@ -60,30 +59,6 @@ attributes_of l =
       minimum_high = get_or l 11 0;
       minimum_low = get_or l 12 0;
     }
-
--- what is read number by number
-module _ (bytes : List ℕ) (at id group random optimal : ℕ) (total unallocated : Capacity) (reads writes time high low : ℕ) where
-  pub numbers_read :
-      id ≡ read_at bytes at body_id → group ≡ read_at bytes at body_group
-      → random ≡ read_at bytes at body_random_read → optimal ≡ read_at bytes at body_optimal_write
-      → total ≡ capacity_in bytes at body_total → unallocated ≡ capacity_in bytes at body_unallocated
-      → reads ≡ read_at bytes at body_reads % 2 ^ 32 → writes ≡ read_at bytes at body_writes % 2 ^ 32
-      → time ≡ read_at bytes at body_time % 2 ^ 32 → high ≡ read_at bytes at body_high % 2 ^ 32 → low ≡ read_at bytes at body_low % 2 ^ 32
-      → record {
-        id = record { 0 = id };
-        group = record { 0 = group };
-        random_read_typical = random;
-        optimal_write_size = optimal;
-        total = total;
-        unallocated = unallocated;
-        reads_typical = reads;
-        writes_typical = writes;
-        time_maximum = time;
-        minimum_high = high;
-        minimum_low = low;
-      }
-      ≡ kept_of (attributes_in bytes at)
-  numbers_read e1 e2 e3 e4 e5 e6 e7 e8 e9 e10 e11 = rw (e1, e2, e3, e4, e5, e6, e7, e8, e9, e10, e11)
 
 -- what fits four bytes fits eight
 wide : (x : ℕ) → x < 2 ^ 32 → x < 2 ^ 64

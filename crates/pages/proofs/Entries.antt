@@ -6,7 +6,7 @@ use mathlib.Core.Logic.{inr}
 use Prim.Native.Nat.{ℕ, zero, suc, ◌+◌, ◌*◌, ◌-◌, ◌/◌, ◌≤◌, ◌<◌}
 use native.Mathlib.Omega.{arith}
 use native.Mathlib.Nat.{add-zero, sub-zero, suc-sub-suc}
-use borrow.Author.Tests.{leb-true, le-leb, lt-leb}
+use borrow.Author.Tests.{leb-true, le-leb}
 use lib.Dec.{leb}
 use lib.ListN.{length, take, length-append, length-take}
 use lib.Seq.{sets, take-nil}
@@ -37,15 +37,6 @@ entry_tidy to from size a fs l h =
 
 pub one_tidy : (to size : ℕ) (a : Attributes) → to + entry_size ≤ size → tidy 0 size (entry_fields to a) ≡ true
 one_tidy to size a h = entry_tidy to 0 size a [] (omega arith) (le-leb (to + 40 + 8) size (omega arith))
-
--- ---- one set: what its test says
-
-module _ (page : List ℕ) (to from : ℕ) (a : Attributes) where
-  pub is_shown : (after : List ℕ) → from ≤ a.id.0 → after ≡ puts page (entry_fields to a) → Shows from a page to after (to + entry_size)
-  is_shown after h e = let k = le-leb from a.id.0 h in record { entry = rw k e; place = rw k }
-
-  pub not_shown : a.id.0 < from → Shows from a page to page to
-  not_shown h = let k = lt-leb from a.id.0 h in record { entry = rw k; place = rw k (omega arith) }
 
 -- ---- the first set, and the rest
 

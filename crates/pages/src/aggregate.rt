@@ -7,7 +7,6 @@ ghost use Rattle.octets.specs.Octets.{bytes_of};
 ghost use Rattle.pages.specs.Aggregate.{lowest_one, without_lowest, listed_size, count_page};
 
 use octets::Place;
-use octets::casts::{from_u32, to_index};
 use record::{SetId, Slot};
 
 pub const AGGREGATE_SIZE: usize = 136;
@@ -21,7 +20,7 @@ pub const LISTED_SIZE: usize = 2;
 fn count_of(word: u64) -> u64
     ensures { result ≡ ones word }
 {
-    from_u32(u64::count_ones(word))
+    u64::from(word.count_ones())
 }
 
 pub fn clear_lowest(word: u64) -> u64
@@ -35,16 +34,16 @@ pub fn clear_lowest(word: u64) -> u64
 pub fn lowest(word: u64) -> Slot
     ensures { result.0 ≡ lowest_one word }
 {
-    Slot(to_index(u64::trailing_zeros(word)))
+    Slot(word.trailing_zeros() as usize)
 }
 
 // The page with its count, and no entry yet.
 pub fn count_page(word: u64) -> [u8; AGGREGATE_SIZE]
     ensures { result ≡ count_page (ones word) }
 {
-    let mut p = [0u8; AGGREGATE_SIZE];
-    octets::put_at(&mut p, 0, COUNT, count_of(word));
-    p
+    let mut page = [0; AGGREGATE_SIZE];
+    COUNT.put(&mut page, 0, count_of(word));
+    page
 }
 
 // The entry at `to`.
@@ -52,5 +51,5 @@ pub fn put_listed(page: &mut [u8], to: usize, id: SetId)
     requires { to + listed_size ≤ length page.old }
     ensures { page.new ≡ sets page.old to (bytes_of listed_size id.0) }
 {
-    octets::put(page, to, LISTED_SIZE, id.0 as u64);
+    octets::put(page, to, LISTED_SIZE, u64::from(id.0));
 }

@@ -1,28 +1,34 @@
-// A capacity of 16 bytes: two words, the lower 64 bits first.
-ghost use Rattle.std.specs.Prelude.{◌≡◌, ◌+◌, ◌≤◌, length};
-ghost use Rattle.octets.specs.Pages.{fields_at, places_from, puts};
-ghost use Rattle.pages.specs.Capacities.{halves, halves_of, capacity_in};
+// The numbers of attributes in the order of every page. A capacity is two words of them, the lower 64 bits first.
+ghost use Rattle.std.specs.Prelude.{◌≡◌, ◌++◌};
+ghost use Rattle.pages.specs.Capacities.{halves_of, names_of, limits_of};
 
-use octets::Place;
-use octets::words::word_at;
-use record::Capacity;
+use record::Attributes;
 
-pub(crate) fn capacity_in(bytes: &[u8], from: usize, p: Place) -> Capacity
-    requires { from + p.at + 16 ≤ length bytes.now }
-    ensures { result ≡ capacity_in bytes.now from p }
+// The first six, which Identify shows.
+pub(crate) fn sizes_of(a: Attributes) -> [u64; 8]
+    ensures { result ≡ names_of a ++ halves_of a.total ++ halves_of a.unallocated }
 {
-    let low = word_at(bytes, from + p.at);
-    let high = word_at(bytes, from + (p.at + 8));
-    Capacity {
-        low: low,
-        high: high,
-    }
+    [
+        u64::from(a.id.0),
+        u64::from(a.group.0),
+        u64::from(a.random_read_typical),
+        u64::from(a.optimal_write_size),
+        a.total.low,
+        a.total.high,
+        a.unallocated.low,
+        a.unallocated.high,
+    ]
 }
 
-pub(crate) fn put_capacity(page: &mut [u8], from: usize, p: Place, c: Capacity)
-    requires { from + p.at + 16 ≤ length page.old }
-    ensures { page.new ≡ puts page.old (fields_at (places_from from (halves p)) (halves_of c)) }
+// The other five, which rule the windows.
+pub(crate) fn limits_of(a: Attributes) -> [u64; 5]
+    ensures { result ≡ limits_of a }
 {
-    octets::put(page, from + p.at, 8, c.low);
-    octets::put(page, from + (p.at + 8), 8, c.high);
+    [
+        u64::from(a.reads_typical),
+        u64::from(a.writes_typical),
+        u64::from(a.time_maximum),
+        u64::from(a.minimum_high),
+        u64::from(a.minimum_low),
+    ]
 }

@@ -1,11 +1,9 @@
 // The data of feature 13h: what Set Features brings and Get Features hands back.
 ghost use Rattle.std.specs.Prelude.{◌≡◌, ◌≤◌, length};
 ghost use Rattle.std.proofs.lemmas.List.Edits.{sets};
-ghost use Rattle.octets.specs.Pages.{puts};
-ghost use Rattle.pages.specs.Features.{feature_size, config_fields, config_page, config_in};
+ghost use Rattle.pages.specs.Features.{feature_size, config_page, config_in};
 
-use octets::numbers::word_in;
-use octets::{Place, put_at};
+use octets::{Place, clear, fill};
 use record::parts::config_of;
 use record::{Config, Events};
 
@@ -19,41 +17,30 @@ const WRITES: Place = Place { at: 40, width: 8 };
 
 const TIME: Place = Place { at: 48, width: 8 };
 
-fn put_config(page: &mut [u8], c: Config)
-    requires { feature_size ≤ length page.old }
-    ensures { page.new ≡ puts page.old (config_fields c) }
-{
-    put_at(page, 0, ENABLED, u64::from(c.enabled));
-    put_at(page, 0, READS, c.thresholds.reads);
-    put_at(page, 0, WRITES, c.thresholds.writes);
-    put_at(page, 0, TIME, c.thresholds.time);
-}
+const PLACES: [Place; 4] = [ENABLED, READS, WRITES, TIME];
 
-pub fn config_page(c: Config) -> [u8; FEATURE_SIZE]
-    ensures { result ≡ config_page c }
-{
-    let mut p = [0u8; FEATURE_SIZE];
-    put_config(&mut p, c);
-    p
-}
-
-// The same on the first bytes of an answer, with no page in between.
+// The page, made on the first bytes of an answer.
 pub fn config_onto(c: Config, answer: &mut [u8])
     requires { feature_size ≤ length answer.old }
     ensures { answer.new ≡ sets answer.old 0 (config_page c) }
 {
-    octets::clear(answer, FEATURE_SIZE);
-    put_config(answer, c);
+    let t = c.thresholds;
+    clear(answer, FEATURE_SIZE);
+    fill(
+        answer,
+        0,
+        &PLACES,
+        &[u64::from(c.enabled), t.reads, t.writes, t.time],
+    );
 }
 
 pub fn config_in(bytes: &[u8]) -> Config
     requires { feature_size ≤ length bytes.now }
     ensures { result ≡ config_in bytes.now }
 {
-    let bits = octets::get(bytes, ENABLED.at, ENABLED.width);
-    let enabled = Events::from_bits_truncate(bits);
-    let reads = word_in(bytes, 0, READS);
-    let writes = word_in(bytes, 0, WRITES);
-    let time = word_in(bytes, 0, TIME);
+    let enabled = Events::from_bits_truncate(u64::from(ENABLED.short(bytes, 0)));
+    let reads = READS.word(bytes, 0);
+    let writes = WRITES.word(bytes, 0);
+    let time = TIME.word(bytes, 0);
     config_of(enabled, reads, writes, time)
 }

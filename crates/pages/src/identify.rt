@@ -2,13 +2,10 @@
 ghost use Rattle.std.specs.Prelude.{◌≡◌, ◌+◌, ◌-◌, ◌/◌, ◌≤◌, length};
 ghost use Rattle.std.proofs.lemmas.List.Edits.{sets};
 ghost use Rattle.octets.specs.Octets.{bytes_of};
-ghost use Rattle.octets.specs.Pages.{fields_at, places_from, puts};
-ghost use Rattle.pages.specs.Capacities.{names_of};
-ghost use Rattle.pages.specs.Identify.{entry_size, first_entry, entry_names, entry_fields, Shows};
+ghost use Rattle.pages.specs.Identify.{entry_size, first_entry, Shows};
 
-use crate::capacities::put_capacity;
-use octets::casts::from_size;
-use octets::{Place, put_at};
+use crate::capacities::sizes_of;
+use octets::{Place, fill};
 use record::{Attributes, SetId};
 
 pub const IDENTIFY_SIZE: usize = 4096;
@@ -19,43 +16,17 @@ const ENTRY_SIZE: usize = 128;
 
 pub const FIRST_ENTRY: usize = 128;
 
-const ID: Place = Place { at: 0, width: 2 };
-
-const GROUP: Place = Place { at: 2, width: 2 };
-
-const RANDOM_READ: Place = Place { at: 8, width: 4 };
-
-const OPTIMAL_WRITE: Place = Place { at: 12, width: 4 };
-
-const TOTAL: Place = Place { at: 16, width: 16 };
-
-const UNALLOCATED: Place = Place { at: 32, width: 16 };
-
-fn put_names(page: &mut [u8], to: usize, a: Attributes)
-    requires { to + entry_size ≤ length page.old }
-    ensures { page.new ≡ puts page.old (fields_at (places_from to entry_names) (names_of a)) }
-{
-    let id = a.id.0 as u64;
-    let group = a.group.0 as u64;
-    let random_read = a.random_read_typical as u64;
-    let optimal_write = a.optimal_write_size as u64;
-    put_at(page, to, ID, id);
-    put_at(page, to, GROUP, group);
-    put_at(page, to, RANDOM_READ, random_read);
-    put_at(page, to, OPTIMAL_WRITE, optimal_write);
-}
-
-// The entry that starts at `to`. Its reserved bytes are the zeros that the page came with.
-fn put_entry(page: &mut [u8], to: usize, a: Attributes)
-    requires { to + entry_size ≤ length page.old }
-    ensures { page.new ≡ puts page.old (entry_fields to a) }
-{
-    let total = a.total;
-    let unallocated = a.unallocated;
-    put_names(page, to, a);
-    put_capacity(page, to, TOTAL, total);
-    put_capacity(page, to, UNALLOCATED, unallocated);
-}
+// In an entry, whose reserved bytes are the zeros that the page came with.
+const PLACES: [Place; 8] = [
+    Place { at: 0, width: 2 }, // identifier
+    Place { at: 2, width: 2 }, // group
+    Place { at: 8, width: 4 }, // random read typical
+    Place { at: 12, width: 4 }, // optimal write size
+    Place { at: 16, width: 8 }, // total: the lower word
+    Place { at: 24, width: 8 }, // and the upper
+    Place { at: 32, width: 8 }, // unallocated: the lower word
+    Place { at: 40, width: 8 }, // and the upper
+];
 
 // The entry of one set, if it is to be shown; the answer is the next place.
 pub fn show(page: &mut [u8], to: usize, a: Attributes, from: SetId) -> usize
@@ -63,7 +34,7 @@ pub fn show(page: &mut [u8], to: usize, a: Attributes, from: SetId) -> usize
     ensures { Shows from.0 a page.old to page.new result }
 {
     if from.0 <= a.id.0 {
-        put_entry(page, to, a);
+        fill(page, to, &PLACES, &sizes_of(a));
         to + ENTRY_SIZE
     } else {
         to
@@ -75,5 +46,5 @@ pub fn put_count(page: &mut [u8], to: usize)
     requires { (first_entry ≤ to) × (1 ≤ length page.old) }
     ensures { page.new ≡ sets page.old 0 (bytes_of 1 ((to - first_entry) / entry_size)) }
 {
-    put_at(page, 0, COUNT, from_size((to - FIRST_ENTRY) / ENTRY_SIZE));
+    COUNT.put(page, 0, ((to - FIRST_ENTRY) / ENTRY_SIZE) as u64);
 }

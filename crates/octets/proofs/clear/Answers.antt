@@ -1,12 +1,14 @@
+-- What is left is a page with no field, written over the first n bytes.
+use mathlib.Core.Path.{◌≡◌}
+use native.Mathlib.Omega.{arith}
 use borrow.Author.Rules.{rules}
-use Rattle.octets.proofs.Pages.{clear_start, clear_turn, clear_end}
+use lib.ListN.{replicate, length-replicate}
+use Rattle.octets.proofs.Runs.{written}
+use Rattle.octets.proofs.Pages.{blank}
 use Rattle.octets.proofs.clear.Goals as goal
 
-pub loop-i-init : goal.loop-i-init
-loop-i-init c = clear_start _ _
-
-pub loop-i-preserved : goal.loop-i-preserved
-loop-i-preserved c = clear_turn _ _ _ _ c.loop-i.invariant (search rules)
-
 pub returns : goal.returns
-returns c = clear_end _ _ _ _ c.loop-i.invariant (search rules)
+returns c =
+    let n = c.args.n in
+    let zeros : c.fill.new.self ≡ replicate n 0 = search (rules, c.fill.ensures.after) in
+    rw (zeros, ← blank n) (written c.args.buf.now (replicate n 0) 0 n (length-replicate n 0) (omega arith))

@@ -1,26 +1,10 @@
 use mathlib.Core.Path.{sym, ◌∙◌}
-use native.Mathlib.Omega.{arith}
-use borrow.Author.Rules.{rules}
-use lib.ListN.{length}
-use Rattle.octets.proofs.Pages.{fill_fits, fill_turn, fill_end}
+use Rattle.std.proofs.lemmas.Slice.Zip.{zip_end}
+use Rattle.octets.proofs.Pages.{fill_end}
 use Rattle.octets.proofs.fill.Goals as goal
-
-pub put_row-requires : goal.put_row-requires
-put_row-requires c =
-    let l = c.loop-i in
-    let f = fill_fits c.args.rows.now l.i (length c.args.page.now) (search rules) l.invariant.2 in
-    omega arith
-
-pub loop-i-preserved : goal.loop-i-preserved
-loop-i-preserved c =
-    let l = c.loop-i in (
-      search rules,
-      search rules,
-      (fill_fits c.args.rows.now l.i (length c.args.page.now) (search rules) l.invariant.2).1,
-      rw c.put_row.ensures (sym (fill_turn c.args.rows.now l.i l.page (search rules)) ∙ l.invariant.3),
-    )
 
 pub returns : goal.returns
 returns c =
-    let l = c.loop-i in
-    sym (fill_end c.args.rows.now l.i l.page (search rules)) ∙ l.invariant.3
+    let l = c.loop-p in
+    let n = zip_end c.args.places.now c.args.values.now l.yielded c.into_iter-p-iterator.result l.p-iterator c.next.new.self c.next.result (cc) (cc) l.yielded_by c.in-None.is c.next.ensures.steps in
+    sym (fill_end c.args.«from» c.args.places.now c.args.values.now l.page _ n) ∙ l.invariant.2

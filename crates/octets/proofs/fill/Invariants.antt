@@ -1,14 +1,12 @@
 use mathlib.Core.Path.{◌≡◌}
-use mathlib.Core.Bool.{true}
-use Prim.Native.Nat.{◌-◌, ◌≤◌}
 use lib.ListN.{length, drop}
-use Rattle.octets.specs.Pages.{puts, fields_of, tidy}
+use Rattle.octets.specs.Pages.{Within, fields_at, places_from, puts}
+use Rattle.octets.proofs.Pages.{rest_of}
 use Rattle.octets.proofs.fill.Given as goal
 
-abbrev pub invariant-loop-i : goal.invariant-loop-i
-invariant-loop-i l =
-    (l.i ≤ length l.rows) × (length l.page ≡ length l.initial.page) × (tidy 0 (length l.initial.page) (fields_of (drop l.i l.rows)) ≡ true)
-    × (puts l.page (fields_of (drop l.i l.rows)) ≡ puts l.initial.page (fields_of l.rows))
-
-abbrev pub decreases-loop-i : goal.decreases-loop-i
-decreases-loop-i l = length l.rows - l.i
+abbrev pub invariant-loop-p : goal.invariant-loop-p
+invariant-loop-p l =
+    let n = length l.yielded in
+    (length l.page ≡ length l.initial.page)
+    × Within (length l.initial.page) l.«from» (drop n l.places)
+    × (puts l.page (rest_of l.«from» l.places l.values n) ≡ puts l.initial.page (fields_at (places_from l.«from» l.places) l.values))

@@ -1,12 +1,9 @@
 use mathlib.Core.Path.{◌≡◌}
-use Prim.Native.Nat.{◌+◌}
+use Prim.Native.Nat.{◌-◌}
 use lib.ListN.{length}
 use lib.Seq.{sets}
 use Rattle.octets.specs.Octets.{bytes_of}
 use Rattle.octets.proofs.put.Given as goal
 
-abbrev pub invariant-loop-left : goal.invariant-loop-left
-invariant-loop-left l = (l.to + l.left ≡ l.at + l.width) × (length l.buf ≡ length l.initial.buf) × (sets l.buf l.to (bytes_of l.left l.x) ≡ sets l.initial.buf l.at (bytes_of l.width l.v))
-
-abbrev pub decreases-loop-left : goal.decreases-loop-left
-decreases-loop-left l = l.left
+abbrev pub invariant-loop-byte : goal.invariant-loop-byte
+invariant-loop-byte l = (length l.byte-items ≡ l.width) × (sets l.byte-items l.byte-index (bytes_of (l.width - l.byte-index) l.rest) ≡ bytes_of l.width l.v)

@@ -1,5 +1,5 @@
 use mathlib.Core.Path.{◌≡◌}
-use Prim.Native.Nat.{◌+◌, ◌*◌, ◌-◌, ◌≤◌}
+use Prim.Native.Nat.{◌+◌, ◌*◌, ◌-◌}
 use lib.ListN.{length}
 use lib.Seq.{sets}
 use Rattle.octets.specs.Words.{word_size, words_from}
@@ -7,10 +7,5 @@ use Rattle.octets.proofs.words.words_in.Given as goal
 
 abbrev pub invariant-loop-i : goal.invariant-loop-i
 invariant-loop-i l =
-    (l.i ≤ length l.initial.words)
-    × (l.at ≡ l.«from» + l.i * word_size)
-    × (length l.words ≡ length l.initial.words)
-    × (sets l.words l.i (words_from l.bytes l.at (length l.initial.words - l.i)) ≡ sets l.initial.words 0 (words_from l.bytes l.«from» (length l.initial.words)))
-
-abbrev pub decreases-loop-i : goal.decreases-loop-i
-decreases-loop-i l = length l.initial.words - l.i
+    (length l.words ≡ length l.initial.words)
+    × (sets l.words l.i (words_from l.bytes (l.«from» + l.i * word_size) (length l.initial.words - l.i)) ≡ sets l.initial.words 0 (words_from l.bytes l.«from» (length l.initial.words)))

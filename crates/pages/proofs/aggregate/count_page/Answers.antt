@@ -3,4 +3,4 @@ use Rattle.pages.proofs.Listed.{counted}
 use Rattle.pages.proofs.aggregate.count_page.Goals as goal
 
 pub returns : goal.returns
-returns c = counted c.put_at.new.page c.count_of.result c.args.word c.put_at.ensures c.count_of.ensures
+returns c = counted c.put.new.page c.count_of.result c.args.word c.put.ensures c.count_of.ensures

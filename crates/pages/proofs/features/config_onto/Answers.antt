@@ -6,4 +6,4 @@ use Rattle.pages.proofs.features.config_onto.Goals as goal
 
 pub returns : goal.returns
 unfolding config_page
-returns c = made_onto feature_size (config_fields c.args.c) c.args.answer.now _ _ refl c.requires c.clear.ensures c.put_config.ensures
+returns c = made_onto feature_size (config_fields c.args.c) c.args.answer.now _ _ refl c.requires c.clear.ensures (rw c.from.ensures.0 at c.fill.ensures)

@@ -6,4 +6,4 @@ use Rattle.pages.proofs.latency.latency_onto.Goals as goal
 
 pub returns : goal.returns
 unfolding latency_page
-returns c = made_onto latency_size (latency_fields c.args.r) c.args.answer.now _ _ refl c.requires c.clear.ensures c.put_latency.ensures
+returns c = made_onto latency_size (latency_fields c.args.r) c.args.answer.now _ _ refl c.requires c.clear.ensures (rw c.numbers_of.ensures at c.fill.ensures)
