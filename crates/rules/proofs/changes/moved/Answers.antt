@@ -8,11 +8,11 @@ returns-in-Never c = sym (ap (moved_to _) (sym c.entry-n.ensures ∙ c.in-Never.
 pub returns-in-Refuse : goal.returns-in-Refuse
 returns-in-Refuse c = sym (ap (moved_to _) (sym c.entry-n.ensures ∙ c.in-Refuse.is))
 
-pub returns-in-SomeOff : goal.returns-in-SomeOff
-returns-in-SomeOff c = sym (ap (moved_to _) (sym c.entry-n.ensures ∙ c.in-ToOff.is))
+pub returns-in-ToOff : goal.returns-in-ToOff
+returns-in-ToOff c = sym (ap (moved_to _) (sym c.entry-n.ensures ∙ c.in-ToOff.is))
 
-pub returns-in-SomeD : goal.returns-in-SomeD
-returns-in-SomeD c = sym (ap (moved_to _) (sym c.entry-n.ensures ∙ c.in-ToD.is))
+pub returns-in-ToD : goal.returns-in-ToD
+returns-in-ToD c = sym (ap (moved_to _) (sym c.entry-n.ensures ∙ c.in-ToD.is))
 
-pub returns-in-SomeN : goal.returns-in-SomeN
-returns-in-SomeN c = sym (ap (moved_to _) (sym c.entry-n.ensures ∙ c.in-ToN.is))
+pub returns-in-ToN : goal.returns-in-ToN
+returns-in-ToN c = sym (ap (moved_to _) (sym c.entry-n.ensures ∙ c.in-ToN.is))
