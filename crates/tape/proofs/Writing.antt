@@ -1,5 +1,5 @@
 -- Text put piece by piece: a turn of each loop, and how long each piece is.
-use mathlib.Core.Path.{◌≡◌, refl, sym, ap, ap₂, ◌∙◌}
+use mathlib.Core.Path.{◌≡◌, refl, sym, ap, ◌∙◌}
 use mathlib.Core.List.{List, [], ◌∷◌, ◌++◌}
 use mathlib.Core.Logic.{inr}
 use Prim.Native.Nat.{ℕ, zero, suc, ◌+◌, ◌*◌, ◌-◌, ◌/◌, ◌%◌, ◌^◌, ◌≤◌, ◌<◌}
@@ -8,15 +8,15 @@ use native.Mathlib.Nat.{pow-suc, lt_trans, lt_of_lt_of_le, mod-lt}
 use native.Mathlib.Numerals.{add-one}
 use borrow.Author.Tests.{lt-ltb, le-ltb}
 use lib.Dec.{lit<}
-use lib.ListN.{length, length-append, get_or, set, take, drop}
-use lib.Seq.{sets, length-sets, drop-cons, drop-length}
+use lib.ListN.{length, length-append, set, take, drop}
+use lib.Seq.{sets, length-sets}
 use borrow.Rule.Slice.PartMut.{put_mid}
 use Rattle.std.proofs.Common.{append_assoc, length-take-le}
-use Rattle.std.proofs.lemmas.List.{append-nil, take_at}
+use Rattle.std.proofs.lemmas.List.{take_at}
 use Rattle.std.proofs.lemmas.List.Edits.{sets-eq, paste_all}
 use Rattle.std.proofs.lemmas.Slice.{put_mid-paste}
 use Rattle.octets.proofs.Runs.{set_sets, sets_join}
-use Rattle.tape.specs.Text.{digit_of, digits_of, hex_of, places_below, places, data_hex, data_text, space, Put}
+use Rattle.tape.specs.Text.{digit_of, digits_of, hex_of, places_below, places, data_hex, Put}
 
 pub length_digits : (base w v : ℕ) → length (digits_of base w v) ≡ w
 length_digits base zero v = refl
@@ -107,28 +107,3 @@ put_after before text after at next e n h = record { bytes = e; place = n; withi
 pub length_data : (bytes : List ℕ) → length (data_hex bytes) ≡ 2 * length bytes
 length_data [] = refl
 length_data (b ∷ bs) = length-append (hex_of 2 b) (data_hex bs) ∙ omega (arith, length_digits 16 2 b, length_data bs)
-
-pub data_turn :
-    (l m n bytes : List ℕ) (i : ℕ) → i < length bytes → l ++ data_hex (drop i bytes) ≡ n → m ≡ l ++ hex_of 2 (get_or bytes i 0)
-    → m ++ data_hex (drop (i + 1) bytes) ≡ n
-data_turn l m n bytes i h e p =
-    let b = get_or bytes i 0 in
-    let rest = data_hex (drop (suc i) bytes) in
-    ap₂ (λ (x : List ℕ) (k : ℕ). x ++ data_hex (drop k bytes)) p (add-one i)
-    ∙ append_assoc l (hex_of 2 b) rest
-    ∙ sym (ap (λ (x : List ℕ). l ++ data_hex x) (drop-cons bytes i 0 h))
-    ∙ e
-
-pub data_end :
-    (l m n bytes : List ℕ) → (length bytes ≡ 0 → ⊥) → m ≡ l ++ space ∷ [] → n ++ data_hex (drop (length bytes) bytes) ≡ m ++ data_hex bytes
-    → (n ≡ l ++ data_text bytes) × (length n ≤ length l + 1 + 2 * length bytes)
-data_end l m n [] s p e = absurd (s refl)
-data_end l m n (b ∷ bs) s p e =
-    let bytes = b ∷ bs in
-    let all : n ≡ l ++ (space ∷ data_hex bytes) =
-    sym (append-nil n) ∙ ap (λ (x : List ℕ). n ++ data_hex x) (sym (drop-length bytes)) ∙ e ∙ ap (λ (k : List ℕ). k ++ data_hex bytes) p ∙ append_assoc l (space ∷ []) (data_hex bytes) in
-    (all, omega (arith, ap length all, length-append l (space ∷ data_hex bytes), length_data bytes))
-
-pub data_none : (l bytes : List ℕ) → length bytes ≡ 0 → (l ≡ l ++ data_text bytes) × (length l ≤ length l + 1 + 2 * length bytes)
-data_none l [] e = (sym (append-nil l), omega arith)
-data_none l (b ∷ bs) e = absurd (omega arith)

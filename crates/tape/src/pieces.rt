@@ -56,7 +56,7 @@ fn put(out: &mut [u8], at: usize, bytes: &[u8])
 fn one_more(n: u64) -> u64
     ensures { result ≡ one_more n }
 {
-    if n < u64::MAX { n + 1 } else { n }
+    n.saturating_add(1)
 }
 
 // ---- the sets
@@ -75,11 +75,7 @@ fn keep(bodies: &mut [u8], n: u64, body: &[u8])
 fn kept_len(n: u64) -> usize
     ensures { result ≡ min n most_bodies * body_size }
 {
-    if n < MOST as u64 {
-        n as usize * BODY
-    } else {
-        BODIES
-    }
+    n.min(MOST as u64) as usize * BODY
 }
 
 fn set_up_turn(table: &mut [u64], bodies: &[u8], line: &mut Line, n: u64) -> Progress

@@ -102,7 +102,7 @@ fn digit(d: u64) -> u8
     ensures { result ≡ digit_of d }
 {
     let d = d as u8;
-    if d < 10 { 48 + d } else { 55 + d }
+    if d < 10 { b'0' + d } else { b'A' - 10 + d }
 }
 
 // The last `width` digits of a number, written from the lowest to the highest.
