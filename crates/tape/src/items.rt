@@ -66,6 +66,14 @@ impl Kind {
     }
 }
 
+// How long the body of a kind with a number is; none where it is no item's.
+pub fn item_size(number: u8) -> Option<usize>
+    ensures some { IfSome result (λ size. (size ≡ item_size number) × (0 < size)) }
+    ensures none { IsNone result → item_size number ≡ 0 }
+{
+    Some(Kind::of(number)?.size())
+}
+
 // A media event of a set.
 fn play_event(table: &mut [u64], line: &mut Line, set: u16, m: Media)
     ensures { Played table.old (some (item_of set m)) table.new line.new }
@@ -172,8 +180,8 @@ pub fn next_item(left: &[u8], last: bool) -> Next
     if left.is_empty() {
         return next_none(last);
     }
-    match Kind::of(left[0]) {
-        Some(kind) => next_body(kind.size(), left.len() - 1, last),
+    match item_size(left[0]) {
+        Some(size) => next_body(size, left.len() - 1, last),
         None => Next::Bad,
     }
 }

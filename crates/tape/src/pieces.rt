@@ -10,7 +10,7 @@ ghost use Rattle.tape.specs.Pieces.{progress, at_start, most_bodies, bodies_room
 ghost use Rattle.tape.specs.Turning.{Turned, Advanced};
 ghost use Rattle.tape.specs.declared.Next.TheVariants.{Whole};
 
-use crate::items::{Kind, next_item, next_set, play};
+use crate::items::{item_size, next_item, next_set, play};
 use crate::lines::{bad_line, end_line, sets_line};
 use crate::text::{LINE, Line};
 use crate::{Next, Progress, Stage};
@@ -124,7 +124,7 @@ fn play_first(table: &mut [u64], line: &mut Line, left: &[u8], n: u64) -> Progre
     ensures { Turned (item_turn Whole n table.old [] left.now) result table.new [] line.new }
 {
     let number = left[0];
-    let to = 1 + Kind::of(number).unwrap().size();
+    let to = 1 + item_size(number).unwrap();
     play(table, line, number, &left[1..to]);
     made(Stage::Items, one_more(n), to, line.len(), true)
 }
@@ -191,7 +191,7 @@ fn advance(
     ensures { Advanced (player p table.old bodies.old out.old) piece.now last (player result table.new bodies.new out.new) }
 {
     if out.len() - p.len < LINE {
-        return made(p.stage, p.count, p.used, p.len, false);
+        return Progress { going: false, ..p };
     }
     line.clear();
     let t = turn(
