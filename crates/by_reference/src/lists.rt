@@ -28,17 +28,15 @@ fn set_up_from(table: &mut [u64], bytes: &[u8], n: usize) -> u16
     ensures { SetUp (first_bodies bytes.now n) table.old table.new result }
 {
     let end = n.min(bytes.len() / BODY) * BODY;
-    card::set_up::set_up(table, &bytes[0..end])
+    card::set_up::set_up(table, &bytes[..end])
 }
 
 pub fn set_up(table: &mut [u64], list: &[Attributes]) -> u16
     ensures { SetUp (bodies_of list.now) table.old table.new result }
 {
     let mut buffer = [0u8; ROOM];
-    let mut i = 0;
-    while i < list.len() {
-        put_body(&mut buffer, i, list[i]);
-        i += 1;
+    for (i, &a) in list.iter().enumerate() {
+        put_body(&mut buffer, i, a);
     }
     set_up_from(table, &buffer, list.len())
 }

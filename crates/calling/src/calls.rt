@@ -4,41 +4,35 @@ use card::media::{excursion, reads, ticks, writes};
 use card::set_up::set_up;
 use record::SetId;
 use replies::{Reply, to_no, told_no};
+use std::io;
 use std::io::Write;
-use streams::{HEAD, count_in, give, give_reply, give_status, give_words, number, set_in, time_in};
+use streams::{
+    HEAD, Kind, count_in, give_reply, give_status, give_words, kind_in, set_in, time_in,
+};
 
-fn reply_of(
-    head: &[u8; HEAD],
-    kind: u64,
-    table: &mut [u64],
-    bytes: &[u8],
-    given: &[u8],
-    answer: &mut [u8],
-) -> Reply {
+// What a call is lent.
+#[derive(Drop)]
+pub struct Lent<'a> {
+    pub table: &'a mut [u64],
+    pub command: &'a [u8],
+    pub data: &'a [u8],
+    pub answer: &'a mut [u8],
+}
+
+// A head of no known kind is a command's.
+fn reply_of(head: &[u8; HEAD], lent: &mut Lent<'_>) -> Reply {
     let id = SetId(set_in(head));
-    if kind == 3 {
-        reads(table, id, count_in(head))
-    } else if kind == 4 {
-        writes(table, id, count_in(head))
-    } else if kind == 5 {
-        excursion(table, id)
-    } else if kind == 6 {
-        ticks(table, time_in(head), answer)
-    } else {
-        command(table, bytes, given, answer)
+    match kind_in(head) {
+        Some(Kind::Reads) => reads(lent.table, id, count_in(head)),
+        Some(Kind::Writes) => writes(lent.table, id, count_in(head)),
+        Some(Kind::Excursion) => excursion(lent.table, id),
+        Some(Kind::Tick) => ticks(lent.table, time_in(head), lent.answer),
+        _ => command(lent.table, lent.command, lent.data, lent.answer),
     }
 }
 
-fn answer_whole<W: Write>(
-    out: &mut W,
-    head: &[u8; HEAD],
-    kind: u64,
-    table: &mut [u64],
-    bytes: &[u8],
-    given: &[u8],
-    answer: &mut [u8],
-) {
-    let r = reply_of(head, kind, table, bytes, given, answer);
+fn answer_whole<W: Write>(out: &mut W, head: &[u8; HEAD], lent: &mut Lent<'_>) -> io::Result<()> {
+    let r = reply_of(head, lent);
     let notice = r.notice;
     give_reply(
         out,
@@ -47,62 +41,44 @@ fn answer_whole<W: Write>(
         r.len,
         told_no(notice),
         to_no(notice),
-    );
+    )
 }
 
-fn answer_part<W: Write>(
-    out: &mut W,
-    table: &mut [u64],
-    bytes: &[u8],
-    given: &[u8],
-    answer: &mut [u8],
-) {
+fn answer_part<W: Write>(out: &mut W, lent: &mut Lent<'_>) -> io::Result<()> {
     let mut status = 0;
     let mut dword = 0;
     let mut told = 0;
     let mut to = 0;
     let written = command_part(
-        table,
-        bytes,
-        given,
-        answer,
+        lent.table,
+        lent.command,
+        lent.data,
+        lent.answer,
         &mut status,
         &mut dword,
         &mut told,
         &mut to,
     );
-    give_reply(out, status, dword, written.len(), told, to);
-    give(out, written);
+    give_reply(out, status, dword, written.len(), told, to)?;
+    out.write_all(written)
 }
 
-fn answer_by<W: Write>(
-    out: &mut W,
-    head: &[u8; HEAD],
-    table: &mut [u64],
-    bytes: &[u8],
-    given: &[u8],
-    answer: &mut [u8],
-) {
-    let kind = number(head, 0, 1);
-    if kind == 7 {
-        give_status(out, set_up(table, given));
-    } else if kind == 8 {
-        answer_part(out, table, bytes, given, answer);
-    } else {
-        answer_whole(out, head, kind, table, bytes, given, answer);
+fn answer_by<W: Write>(out: &mut W, head: &[u8; HEAD], lent: &mut Lent<'_>) -> io::Result<()> {
+    match kind_in(head) {
+        Some(Kind::SetUp) => give_status(out, set_up(lent.table, lent.data)),
+        Some(Kind::CommandPart) => answer_part(out, lent),
+        _ => answer_whole(out, head, lent),
     }
 }
 
+// The words' bytes pass through a buffer.
 pub fn carry_out<W: Write>(
     out: &mut W,
     head: &[u8; HEAD],
-    table: &mut [u64],
-    bytes: &[u8],
-    given: &[u8],
-    answer: &mut [u8],
+    lent: &mut Lent<'_>,
     buf: &mut [u8],
-) {
-    answer_by(out, head, table, bytes, given, answer);
-    give_words(out, table, buf);
-    give(out, answer);
+) -> io::Result<()> {
+    answer_by(out, head, lent)?;
+    give_words(out, lent.table, buf)?;
+    out.write_all(lent.answer)
 }

@@ -5,10 +5,10 @@
 
 mod calls;
 
-use calls::carry_out;
+use calls::{Lent, carry_out};
 use std::io;
 use std::io::{Read, Write};
-use streams::{HEAD, Sizes, part, part_mut, sizes_in, take, take_words, words_part};
+use streams::{HEAD, Sizes, part, part_mut, sizes_in, take, take_words};
 
 // 200 bodies, and the words that so many sets would need: far more than a card has.
 const WORDS: usize = 5120;
@@ -21,71 +21,57 @@ const COMMAND: usize = 128;
 
 const DATA: usize = 20480;
 
-// Reads what follows a head; whether all came.
-fn take_all<R: Read>(
-    from: &mut R,
-    n: Sizes,
-    words: &mut [u64],
-    answer: &mut [u8],
-    command: &mut [u8],
-    data: &mut [u8],
-    buf: &mut [u8],
-) -> bool {
-    let a = take_words(from, words, n.table, buf);
-    let b = take(from, answer, n.answer);
-    let c = take(from, command, n.command);
-    let d = take(from, data, n.data);
-    a & b & c & d
+// Room for what follows a head, and for the words' bytes on their way.
+#[derive(Drop)]
+struct Room {
+    table: [u64; WORDS],
+    answer: [u8; ANSWER],
+    command: [u8; COMMAND],
+    data: [u8; DATA],
+    bytes: [u8; BYTES],
 }
 
-// One call; whether there may be another.
-fn one_call<R: Read, W: Write>(
-    from: &mut R,
-    out: &mut W,
-    words: &mut [u64],
-    answer: &mut [u8],
-    command: &mut [u8],
-    data: &mut [u8],
-    buf: &mut [u8],
-) -> bool {
-    let mut head = [0u8; HEAD];
-    let begun = take(from, &mut head, HEAD);
-    let n = sizes_in(&head);
-    let came = take_all(from, n, words, answer, command, data, buf);
-    if begun & came {
-        carry_out(
-            out,
-            &head,
-            words_part(words, n.table),
-            part(command, n.command),
-            part(data, n.data),
-            part_mut(answer, n.answer),
-            buf,
-        );
-        return true;
+impl Room {
+    fn new() -> Room {
+        Room {
+            table: [0; WORDS],
+            answer: [0; ANSWER],
+            command: [0; COMMAND],
+            data: [0; DATA],
+            bytes: [0; BYTES],
+        }
     }
-    false
+
+    fn take_all<R: Read>(&mut self, from: &mut R, n: Sizes) -> io::Result<()> {
+        take_words(from, &mut self.table, n.table, &mut self.bytes)?;
+        take(from, &mut self.answer, n.answer)?;
+        take(from, &mut self.command, n.command)?;
+        take(from, &mut self.data, n.data)
+    }
 }
 
-// A proved loop has to end, and nothing says that the input does: so it takes no more turns than a number that no run uses up.
+fn one_call<R: Read, W: Write>(from: &mut R, out: &mut W, room: &mut Room) -> io::Result<()> {
+    let mut head = [0u8; HEAD];
+    from.read_exact(&mut head)?;
+    let n = sizes_in(&head);
+    room.take_all(from, n)?;
+    let mut lent = Lent {
+        table: part_mut(&mut room.table, n.table),
+        command: part(&room.command, n.command),
+        data: part(&room.data, n.data),
+        answer: part_mut(&mut room.answer, n.answer),
+    };
+    carry_out(out, &head, &mut lent, &mut room.bytes)
+}
+
+// A proved loop has to end, and nothing says that the input does: so it takes no more turns than a number that no run uses up. The
+// end of the input is a read that fails, and nothing is said of it.
 fn main(rt: HostRuntime) {
     let mut from = rt.reader();
     let mut out = io::writer(&rt);
-    let mut words = [0u64; WORDS];
-    let mut answer = [0u8; ANSWER];
-    let mut command = [0u8; COMMAND];
-    let mut data = [0u8; DATA];
-    let mut buf = [0u8; BYTES];
+    let mut room = Room::new();
     for _ in 0..u64::MAX {
-        if !one_call(
-            &mut from,
-            &mut out,
-            &mut words,
-            &mut answer,
-            &mut command,
-            &mut data,
-            &mut buf,
-        ) {
+        if one_call(&mut from, &mut out, &mut room).is_err() {
             return;
         }
     }

@@ -11,7 +11,8 @@ use rules::Media;
 use std::io;
 use std::io::{Read, Write};
 use streams::{
-    HEAD, count_in, give_status, give_words, number, part, sizes_in, take, take_words, words_part,
+    HEAD, Kind, count_in, give_status, give_words, kind_in, part, part_mut, sizes_in, take,
+    take_words,
 };
 use table::MAX_SETS;
 use table::layout::{ROW, record_of, words_of};
@@ -25,13 +26,12 @@ const DATA: usize = MAX_SETS * BODY;
 
 const THREE: usize = 3 * BODY;
 
-fn media_in(head: &[u8; HEAD], kind: u64) -> Media {
-    if kind == 3 {
-        Media::Reads(count_in(head))
-    } else if kind == 4 {
-        Media::Writes(count_in(head))
-    } else {
-        Media::Excursion
+// A head of no known kind is an excursion's.
+fn media_in(head: &[u8; HEAD]) -> Media {
+    match kind_in(head) {
+        Some(Kind::Reads) => Media::Reads(count_in(head)),
+        Some(Kind::Writes) => Media::Writes(count_in(head)),
+        _ => Media::Excursion,
     }
 }
 
@@ -72,25 +72,23 @@ fn list_in(bodies: &[u8]) -> [Attributes; MAX_SETS] {
 }
 
 fn set_up(table: &mut [u64], bodies: &[u8]) -> u16 {
-    let n = bodies.len();
-    if n == THREE {
-        let a = attributes_at(bodies, 0);
-        let b = attributes_at(bodies, 1);
-        let c = attributes_at(bodies, 2);
-        return set_up_three(table, a, b, c);
+    match bodies.len() {
+        THREE => {
+            let a = attributes_at(bodies, 0);
+            let b = attributes_at(bodies, 1);
+            let c = attributes_at(bodies, 2);
+            set_up_three(table, a, b, c)
+        }
+        DATA => set_up_full(table, list_in(bodies)),
+        _ => 0xFFFF,
     }
-    if n == DATA {
-        return set_up_full(table, list_in(bodies));
-    }
-    0xFFFF
 }
 
 fn status_of(head: &[u8; HEAD], table: &mut [u64], bodies: &[u8]) -> u16 {
-    let kind = number(head, 0, 1);
-    if kind == 7 {
+    if kind_in(head) == Some(Kind::SetUp) {
         set_up(table, bodies)
     } else {
-        charge(table, media_in(head, kind))
+        charge(table, media_in(head))
     }
 }
 
@@ -100,46 +98,46 @@ fn carry_out<W: Write>(
     table: &mut [u64],
     bodies: &[u8],
     buf: &mut [u8],
-) {
-    give_status(out, status_of(head, table, bodies));
-    give_words(out, table, buf);
+) -> io::Result<()> {
+    give_status(out, status_of(head, table, bodies))?;
+    give_words(out, table, buf)
 }
 
-// One call; whether there may be another.
-fn one_call<R: Read, W: Write>(
-    from: &mut R,
-    out: &mut W,
-    words: &mut [u64],
-    data: &mut [u8],
-    buf: &mut [u8],
-) -> bool {
+// Room for what follows a head, and for the words' bytes on their way.
+#[derive(Drop)]
+struct Room {
+    table: [u64; WORDS],
+    data: [u8; DATA],
+    bytes: [u8; BYTES],
+}
+
+fn one_call<R: Read, W: Write>(from: &mut R, out: &mut W, room: &mut Room) -> io::Result<()> {
     let mut head = [0u8; HEAD];
-    let begun = take(from, &mut head, HEAD);
+    from.read_exact(&mut head)?;
     let n = sizes_in(&head);
-    let a = take_words(from, words, n.table, buf);
-    let b = take(from, data, n.data);
-    if begun & a & b {
-        carry_out(
-            out,
-            &head,
-            words_part(words, n.table),
-            part(data, n.data),
-            buf,
-        );
-        return true;
-    }
-    false
+    take_words(from, &mut room.table, n.table, &mut room.bytes)?;
+    take(from, &mut room.data, n.data)?;
+    carry_out(
+        out,
+        &head,
+        part_mut(&mut room.table, n.table),
+        part(&room.data, n.data),
+        &mut room.bytes,
+    )
 }
 
-// A proved loop has to end, and nothing says that the input does: so it takes no more turns than a number that no run uses up.
+// A proved loop has to end, and nothing says that the input does: so it takes no more turns than a number that no run uses up. The
+// end of the input is a read that fails, and nothing is said of it.
 fn main(rt: HostRuntime) {
     let mut from = rt.reader();
     let mut out = io::writer(&rt);
-    let mut words = [0u64; WORDS];
-    let mut data = [0u8; DATA];
-    let mut buf = [0u8; BYTES];
+    let mut room = Room {
+        table: [0; WORDS],
+        data: [0; DATA],
+        bytes: [0; BYTES],
+    };
     for _ in 0..u64::MAX {
-        if !one_call(&mut from, &mut out, &mut words, &mut data, &mut buf) {
+        if one_call(&mut from, &mut out, &mut room).is_err() {
             return;
         }
     }

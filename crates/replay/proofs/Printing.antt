@@ -1,11 +1,11 @@
 -- What is written of a file's printout, and what is still to come of it.
-use Rattle.std.proofs.Common.{◌≡◌, ℕ, suc, ◌+◌, ◌*◌, ◌-◌, ◌^◌, ◌<◌, ◌≤◌, Bool, true, false, ◌&&◌, Option, Some, None, IfSome, List, [], ◌++◌, length, take, drop, arith, refl, sym, ap, ◌∙◌, subst, append_assoc, length-drop, length-take-le}
+use Rattle.std.proofs.Common.{◌≡◌, ℕ, suc, ◌+◌, ◌*◌, ◌-◌, ◌^◌, ◌<◌, ◌≤◌, Bool, true, Option, Some, None, IfSome, List, [], ◌++◌, length, take, drop, arith, sym, ap, ◌∙◌, subst, append_assoc, length-drop}
 use Rattle.std.specs.Prelude.{min, replicate}
 use Rattle.std.specs.Io.KnownBytes.{Appends, Consumes, IsAtEnd}
 use Rattle.std.proofs.KnownBytes.{Appends-nil, Appends-trans}
 use Rattle.std.proofs.lemmas.List.{append-nil, drop-take, take-append-drop, take-take}
-use Rattle.std.proofs.lemmas.List.Edits.{sets}
-use Rattle.octets.proofs.Runs.{part_same}
+use Rattle.std.proofs.lemmas.List.Edits.{take-paste}
+use Rattle.std.specs.List.{copy_within}
 use Rattle.table.specs.Table.{row_start, max_sets}
 use Rattle.pages.specs.Bodies.{body_size}
 use Rattle.steps.specs.SetUp.{bodies}
@@ -52,10 +52,6 @@ pub starts_at :
     → Plays r r h h true p words kept left
 starts_at r h p words kept left e f room none = rw (e, f, none) (starts r h kept room)
 
-both : (a b : Bool) → a && b ≡ true → (a ≡ true) × (b ≡ true)
-both true b e = (refl, e)
-both false b e = (e, (cc))
-
 -- what was left and what came
 piece_of : (b₀ b : List ℕ) (n m : ℕ) → n ≤ m → take n b ≡ take n b₀ → take n b₀ ++ drop n (take m b) ≡ take m b
 piece_of b₀ b n m h e = ap (λ (l : List ℕ). l ++ drop n (take m b)) (sym e ∙ sym (take-take n m b h)) ∙ take-append-drop n (take m b)
@@ -81,13 +77,13 @@ module _ (held₀ held : Option (List ℕ)) (wrote : Bool) (p : Progress) (words
 
   -- a call, and its text written
   plays :
-      (r now held' : Option (List ℕ)) (w : Bool) (piece out₀ : List ℕ) (last : Bool) (q : Progress) (words' kept' out : List ℕ)
+      (r now held' : Option (List ℕ)) (wrote' : Bool) (piece out₀ : List ℕ) (last : Bool) (q : Progress) (words' kept' out : List ℕ)
       → Plays r now held₀ held wrote p words kept piece → PlayedOn p words kept out₀ piece last q words' kept' out
-      → (last ≡ true → IsAtEnd now) → (w ≡ true → Appends held held' (take q.len out))
-      → Plays r now held₀ held' (wrote && w) q words' kept' (drop q.used piece)
-  plays None now held' w piece out₀ last q words' kept' out h c e f = tt
-  plays (Some file) None held' w piece out₀ last q words' kept' out h c e f = absurd h
-  plays (Some file) (Some later) held' w piece out₀ last q words' kept' out h c e f = λ few.
+      → (last ≡ true → IsAtEnd now) → (wrote' ≡ true → (wrote ≡ true) × Appends held held' (take q.len out))
+      → Plays r now held₀ held' wrote' q words' kept' (drop q.used piece)
+  plays None now held' wrote' piece out₀ last q words' kept' out h c e f = tt
+  plays (Some file) None held' wrote' piece out₀ last q words' kept' out h c e f = absurd h
+  plays (Some file) (Some later) held' wrote' piece out₀ last q words' kept' out h c e f = λ few.
       let k = h few in
       let t = told_call p words kept out₀ piece later last q words' kept' out c e k.room k.few in
       record {
@@ -96,8 +92,8 @@ module _ (held₀ held : Option (List ℕ)) (wrote : Bool) (p : Progress) (words
         written = k.written ++ take q.len out;
         same = k.same ∙ ap (λ (l : List ℕ). k.written ++ l) t.same ∙ sym (append_assoc k.written (take q.len out) _);
         there = λ b.
-            let t = both wrote w b in
-            Appends-trans held₀ held held' k.written (take q.len out) (k.there t.0) (f t.1);
+            let t = f b in
+            Appends-trans held₀ held held' k.written (take q.len out) (k.there t.0) t.1;
       }
 
   -- and once the tape has ended, all of it
@@ -114,24 +110,25 @@ module _ (held₀ held : Option (List ℕ)) (wrote : Bool) (p : Progress) (words
 
   -- a read, a call and a write
   pub turn :
-      (r now new held' : Option (List ℕ)) (b₀ b : List ℕ) (n m : ℕ) (w : Bool) (out₀ : List ℕ) (last : Bool) (q : Progress)
+      (r now new held' : Option (List ℕ)) (b₀ b : List ℕ) (n m : ℕ) (wrote' : Bool) (out₀ : List ℕ) (last : Bool) (q : Progress)
       (words' kept' out : List ℕ) → n ≤ m → take n b ≡ take n b₀ → Plays r now held₀ held wrote p words kept (take n b₀)
       → Consumes now new (drop n (take m b)) → PlayedOn p words kept out₀ (take m b) last q words' kept' out
-      → (last ≡ true → IsAtEnd new) → (w ≡ true → Appends held held' (take q.len out))
-      → Plays r new held₀ held' (wrote && w) q words' kept' (drop q.used (take m b))
-  turn r now new held' b₀ b n m w out₀ last q words' kept' out h same k eaten c end f =
+      → (last ≡ true → IsAtEnd new) → (wrote' ≡ true → (wrote ≡ true) × Appends held held' (take q.len out))
+      → Plays r new held₀ held' wrote' q words' kept' (drop q.used (take m b))
+  turn r now new held' b₀ b n m wrote' out₀ last q words' kept' out h same k eaten c end f =
       let fed = feeds r now new (take n b₀) (drop n (take m b)) k eaten in
       let piece : take n b₀ ++ drop n (take m b) ≡ take m b = piece_of b₀ b n m h same in
       let there = subst (λ (l : List ℕ). Plays r new held₀ held wrote p words kept l) piece fed in
-      plays r new held' w (take m b) out₀ last q words' kept' out there c end f
+      plays r new held' wrote' (take m b) out₀ last q words' kept' out there c end f
 
 -- what is moved to the front is what is not used
 pub fronted :
-    (b front : List ℕ) (at end n : ℕ) → at ≤ end → end ≤ length b → n ≡ end - at → front ≡ sets b 0 (take (end - at) (drop at b))
+    (b front : List ℕ) (at end n : ℕ) → at ≤ end → end ≤ length b → n ≡ end - at → front ≡ copy_within b at end 0
     → drop at (take end b) ≡ take n front
 fronted b front at end n p q e f =
     let k = end - at in
-    let long : length (take k (drop at b)) ≡ k = length-take-le k (drop at b) (omega (arith, length-drop at b)) in
     let same : at + k ≡ end = omega arith in
-    rw (e, f)
-    (sym (part_same (take k (drop at b)) b 0 k long (omega arith) ∙ sym (ap (λ (x : ℕ). drop at (take x b)) (sym same) ∙ drop-take at k b)))
+    let front_part : take (0 + k) front ≡ take k (drop at b) =
+    ap (take (0 + k)) f ∙ take-paste b 0 (drop at b) k (omega arith) (omega (arith, length-drop at b)) in
+    let m : 0 + k ≡ n = omega (arith, e) in
+    sym (ap (λ (x : ℕ). drop at (take x b)) same) ∙ drop-take at k b ∙ sym front_part ∙ ap (λ (x : ℕ). take x front) m

@@ -1,8 +1,9 @@
 // The input, through a buffer of fixed size: what is read and not used yet lies at its front.
-ghost use Rattle.std.specs.Prelude.{◌≡◌, false, true, ◌-◌, ◌≤◌, length, take, drop};
-ghost use Rattle.std.specs.Io.KnownBytes.{Consumes, IsAtEnd};
-ghost use Rattle.std.proofs.lemmas.List.Edits.{sets};
+ghost use Rattle.std.specs.Prelude.{◌≡◌, true, ◌-◌, ◌≤◌, length, take, drop, OnOk, OnErr};
+ghost use Rattle.std.specs.Io.KnownBytes.{Consumes, IsAtEnd, Keeps};
+ghost use Rattle.std.specs.List.{copy_within};
 
+use std::io;
 use std::io::Read;
 
 #[derive(Clone, Copy)]
@@ -11,59 +12,34 @@ pub struct Feed {
     pub have: usize,
     // the input has no more
     pub last: bool,
-    // a read failed
-    pub failed: bool,
 }
 
-fn made(have: usize, last: bool, failed: bool) -> Feed
-    ensures have { result.have ≡ have }
-    ensures last { result.last ≡ last }
-    ensures failed { result.failed ≡ failed }
-{
-    Feed { have, last, failed }
-}
-
-// Before the first read.
-pub fn nothing() -> Feed
-    ensures have { result.have ≡ 0 }
-    ensures last { result.last ≡ false }
-    ensures failed { result.failed ≡ false }
-{
-    made(0, false, false)
-}
-
-// One read after the bytes that are there, which stay, if there is room and the input has more. A read that fails is said on standard
-// error. What is added is what was next in the input, and the input has no more only where it is at its end or a read failed.
-pub fn fill<R: Read>(rt: &impl Eprint, from: &mut R, buf: &mut [u8], f: Feed) -> Feed
-    requires { f.have ≤ length buf.old }
-    ensures kept { (f.have ≤ result.have) × (result.have ≤ length buf.new) × (take f.have buf.new ≡ take f.have buf.old) }
-    ensures added { Consumes (R.remaining from.old) (R.remaining from.new) (drop f.have (take result.have buf.new)) }
-    ensures end { (f.last ≡ true → IsAtEnd (R.remaining from.old))
-        → result.last ≡ true → result.failed ≡ false → IsAtEnd (R.remaining from.new) }
-{
-    let have = f.have;
-    let last = f.last;
-    if last | (buf.len() <= have) {
-        return f;
-    }
-    match from.read(&mut buf[have..]) {
-        Ok(n) => made(have + n, n == 0, false),
-        Err(error) => {
-            let _ = eprintln!(rt; "read: {error}");
-            made(have, true, true)
+impl Feed {
+    // One read after the bytes that are there, which stay, if there is room and the input has more. What is added is what was next in
+    // the input, and the input has no more only where it is at its end. A read that fails adds nothing.
+    pub fn fill<R: Read>(&mut self, from: &mut R, buf: &mut [u8]) -> io::Result<()>
+        requires { self.old.have ≤ length buf.old }
+        ensures kept { (self.old.have ≤ self.new.have) × (self.new.have ≤ length buf.new) × (take self.old.have buf.new ≡ take self.old.have buf.old) }
+        ensures added { OnOk result (Consumes (R.remaining from.old) (R.remaining from.new) (drop self.old.have (take self.new.have buf.new))) }
+        ensures end { OnOk result ((self.old.last ≡ true → IsAtEnd (R.remaining from.old)) → self.new.last ≡ true → IsAtEnd (R.remaining from.new)) }
+        ensures err { OnErr result ((self.new ≡ self.old) × Keeps (R.remaining from.old) (R.remaining from.new)) }
+    {
+        if self.last || buf.len() <= self.have {
+            return Ok(());
         }
+        let n = from.read(&mut buf[self.have..])?;
+        self.have += n;
+        self.last = n == 0;
+        Ok(())
     }
-}
 
-// The bytes from a place to their end, moved to the front; how many there are.
-pub fn to_front(buf: &mut [u8], at: usize, end: usize) -> usize
-    requires { (at ≤ end) × (end ≤ length buf.old) }
-    ensures { (result ≡ end - at) × (buf.new ≡ sets buf.old 0 (take (end - at) (drop at buf.old))) }
-{
-    let mut i = 0;
-    while at + i < end {
-        buf[i] = buf[at + i];
-        i += 1;
+    // Lets the first n bytes go: those after them move to the front.
+    pub fn let_go(&mut self, buf: &mut [u8], n: usize)
+        requires { (n ≤ self.old.have) × (self.old.have ≤ length buf.old) }
+        ensures fields { (self.new.have ≡ self.old.have - n) × (self.new.last ≡ self.old.last) }
+        ensures bytes { buf.new ≡ copy_within buf.old n self.old.have 0 }
+    {
+        buf.copy_within(n..self.have, 0);
+        self.have -= n;
     }
-    i
 }

@@ -3,14 +3,13 @@
 #![tactic(auto)]
 
 mod feed;
-mod output;
 
 ghost use Rattle.std.specs.Prelude.{◌≡◌, true, ◌^◌, ◌<◌, IfSome, length};
 ghost use Rattle.std.specs.Io.KnownBytes.{Appends};
 ghost use Rattle.tape.specs.Printout.{printout};
 ghost use Rattle.tape.specs.declared.Stage.TheVariants.{Ended};
 
-use crate::feed::{fill, nothing, to_front};
+use crate::feed::Feed;
 use std::env::FillError;
 use std::io::{Read, Write};
 use std::rt::{Env, Files};
@@ -72,18 +71,8 @@ fn named<R: Files + Input + Eprint>(rt: &R, path: &[u8]) -> Option<Source<R::Fil
     }
 }
 
-fn has_ended(s: Stage) -> bool
-    ensures { result ≡ true → s ≡ Ended }
-{
-    match s {
-        Stage::Sets => false,
-        Stage::Items => false,
-        Stage::Ended => true,
-    }
-}
-
-// Whether a whole tape was read and all its text written, which is then its printout. A proved loop has to end, and nothing says that a
-// file does: so it takes no more turns than a number that no run uses up.
+// Whether a whole tape was read and all its text written, which is then its printout. A read or a write that fails is said on standard
+// error. A proved loop has to end, and nothing says that a file does: so it takes no more turns than a number that no run uses up.
 fn replay<R: Read, W: Write>(rt: &impl Eprint, from: &mut R, to: &mut W) -> bool
     ensures { result ≡ true → IfSome (R.remaining from.old)
         (λ file. length file < 2 ^ 64 → Appends (W.contents to.old) (W.contents to.new) (printout file)) }
@@ -93,23 +82,32 @@ fn replay<R: Read, W: Write>(rt: &impl Eprint, from: &mut R, to: &mut W) -> bool
     let mut bodies = [0u8; BODIES];
     let mut table = [0u64; WORDS];
     let mut p = at_start();
-    let mut f = nothing();
+    let mut feed = Feed {
+        have: 0,
+        last: false,
+    };
     let mut wrote = true;
     for _ in 0..u64::MAX {
-        f = fill(rt, from, &mut buf, f);
-        let failed = f.failed;
-        if failed {
+        if let Err(error) = feed.fill(from, &mut buf) {
+            let _ = eprintln!(rt; "read: {error}");
             return false;
         }
-        let have = f.have;
-        let last = f.last;
-        p = play_on(&mut table, &mut bodies, &mut out, &buf[..have], last, p);
-        wrote = wrote & output::write(rt, to, &out, p.len);
-        let stage = p.stage;
-        if has_ended(stage) {
+        p = play_on(
+            &mut table,
+            &mut bodies,
+            &mut out,
+            &buf[..feed.have],
+            feed.last,
+            p,
+        );
+        if let Err(error) = to.write_all(&out[..p.len]) {
+            let _ = eprintln!(rt; "write: {error}");
+            wrote = false;
+        }
+        if matches!(p.stage, Stage::Ended) {
             return wrote;
         }
-        f.have = to_front(&mut buf, p.used, have);
+        feed.let_go(&mut buf, p.used);
     }
     false
 }

@@ -10,32 +10,61 @@
 // answer buffer. All numbers are little-endian.
 #![tactic(auto)]
 
-ghost use Rattle.std.specs.Prelude.{◌≡◌, true, [], ◌&&◌, ◌+◌, ◌*◌, ◌≤◌, if◌then◌else◌, length, nat_le, take};
+ghost use Rattle.std.specs.Prelude.{◌≡◌, [], ◌&&◌, ◌+◌, ◌*◌, ◌≤◌, if◌then◌else◌, length, nat_le, take, OnOk};
 ghost use Rattle.std.specs.Io.KnownBytes.{Appends, Consumes};
 ghost use Rattle.octets.specs.Numbers.{number_at};
 ghost use Rattle.octets.specs.Words.{word_size};
-ghost use Rattle.streams.specs.Calls.{head_size, word_bytes, reply_bytes};
+ghost use Rattle.streams.specs.Calls.{head_size, kind_of, word_bytes, reply_bytes};
 
 use octets::numbers::{short, word};
 use octets::words::{words_in, words_out};
-use std::io::{Read, Write};
+use std::io;
+use std::io::{ErrorKind, Read, Write};
 
 pub const HEAD: usize = 16;
 
 const REPLY: usize = 14;
 
+// Bytes of a word.
+const WORD: usize = 8;
+
 // The number in some bytes of a head; 0 where they are not there.
 pub fn number(head: &[u8; HEAD], at: usize, width: usize) -> u64
     ensures { result ≡ (if nat_le (at + width) head_size && nat_le width word_size then number_at head.now at width else 0) }
 {
-    if at <= HEAD {
-        if width <= 8 {
-            if width <= HEAD - at {
-                return octets::get(head, at, width);
-            }
-        }
+    if width <= WORD && at <= HEAD && width <= HEAD - at {
+        octets::get(head, at, width)
+    } else {
+        0
     }
-    0
+}
+
+// What a call is of.
+#[derive(Clone, Copy, PartialEq, Eq)]
+pub enum Kind {
+    Command,
+    Reads,
+    Writes,
+    Excursion,
+    Tick,
+    SetUp,
+    CommandPart,
+}
+
+// The kind of a head; none where its number is none of theirs.
+pub fn kind_in(head: &[u8; HEAD]) -> Option<Kind>
+    ensures { result ≡ kind_of (number_at head.now 0 1) }
+{
+    match number(head, 0, 1) {
+        1 | 2 => Some(Kind::Command),
+        3 => Some(Kind::Reads),
+        4 => Some(Kind::Writes),
+        5 => Some(Kind::Excursion),
+        6 => Some(Kind::Tick),
+        7 => Some(Kind::SetUp),
+        8 => Some(Kind::CommandPart),
+        _ => None,
+    }
 }
 
 // How many words and bytes follow a head.
@@ -81,48 +110,33 @@ pub fn time_in(head: &[u8; HEAD]) -> u32
 }
 
 // The first n of a buffer; none where there are fewer.
-pub fn part<'a>(buf: &'a [u8], n: usize) -> &'a [u8]
+pub fn part<T>(buf: &[T], n: usize) -> &[T]
     ensures { result.now ≡ (if nat_le n (length buf.now) then take n buf.now else []) }
 {
-    if n <= buf.len() {
-        return &buf[0..n];
-    }
-    &buf[0..0]
+    buf.get(..n).unwrap_or(&[])
 }
 
-pub fn part_mut<'a>(buf: &'a mut [u8], n: usize) -> &'a mut [u8]
+pub fn part_mut<T>(buf: &mut [T], n: usize) -> &mut [T]
     ensures { result.now ≡ (if nat_le n (length buf.old) then take n buf.old else []) }
 {
-    if n <= buf.len() {
-        return &mut buf[0..n];
-    }
-    &mut buf[0..0]
+    buf.get_mut(..n).unwrap_or(&mut [])
 }
 
-pub fn words_part<'a>(words: &'a mut [u64], n: usize) -> &'a mut [u64]
-    ensures { result.now ≡ (if nat_le n (length words.old) then take n words.old else []) }
+// Reads n bytes to the start of a buffer; a buffer that is too short for them is an error too.
+pub fn take<R: Read>(from: &mut R, buf: &mut [u8], n: usize) -> io::Result<()>
+    ensures room { OnOk result (n ≤ length buf.new) }
+    ensures bytes { OnOk result (Consumes (R.remaining from.old) (R.remaining from.new) (take n buf.new)) }
 {
-    if n <= words.len() {
-        return &mut words[0..n];
+    if buf.len() < n {
+        return Err(ErrorKind::InvalidInput.into());
     }
-    &mut words[0..0]
-}
-
-// Reads n bytes to the start of a buffer; whether all came.
-pub fn take<R: Read>(from: &mut R, buf: &mut [u8], n: usize) -> bool
-    ensures room { result ≡ true → n ≤ length buf.new }
-    ensures bytes { result ≡ true → Consumes (R.remaining from.old) (R.remaining from.new) (take n buf.new) }
-{
-    if n <= buf.len() {
-        return from.read_exact(&mut buf[0..n]).is_ok();
-    }
-    false
+    from.read_exact(&mut buf[..n])
 }
 
 fn from_bytes(bytes: &[u8], words: &mut [u64])
     ensures { length words.old * word_size ≤ length bytes.now → word_bytes words.new ≡ take (length words.old * word_size) bytes.now }
 {
-    if words.len() <= bytes.len() / 8 {
+    if words.len() <= bytes.len() / WORD {
         words_in(bytes, 0, words);
     }
 }
@@ -130,43 +144,39 @@ fn from_bytes(bytes: &[u8], words: &mut [u64])
 fn to_bytes(words: &[u64], bytes: &mut [u8])
     ensures { length words.now * word_size ≤ length bytes.old → take (length words.now * word_size) bytes.new ≡ word_bytes words.now }
 {
-    if words.len() <= bytes.len() / 8 {
+    if words.len() <= bytes.len() / WORD {
         words_out(words, bytes, 0);
     }
 }
 
 // The same of words; their bytes pass through a buffer.
-pub fn take_words<R: Read>(from: &mut R, words: &mut [u64], n: usize, buf: &mut [u8]) -> bool
-    ensures room { result ≡ true → n ≤ length words.new }
-    ensures bytes { result ≡ true → Consumes (R.remaining from.old) (R.remaining from.new) (word_bytes (take n words.new)) }
+pub fn take_words<R: Read>(
+    from: &mut R,
+    words: &mut [u64],
+    n: usize,
+    buf: &mut [u8],
+) -> io::Result<()>
+    ensures room { OnOk result (n ≤ length words.new) }
+    ensures bytes { OnOk result (Consumes (R.remaining from.old) (R.remaining from.new) (word_bytes (take n words.new))) }
 {
-    if n <= words.len() {
-        if n <= buf.len() / 8 {
-            let came = take(from, buf, 8 * n);
-            from_bytes(buf, &mut words[0..n]);
-            return came;
-        }
+    if words.len() < n || buf.len() / WORD < n {
+        return Err(ErrorKind::InvalidInput.into());
     }
-    false
+    take(from, buf, WORD * n)?;
+    from_bytes(buf, &mut words[..n]);
+    Ok(())
 }
 
-// Writes bytes; whether all went.
-pub fn give<W: Write>(out: &mut W, bytes: &[u8]) -> bool
-    ensures { result ≡ true → Appends (W.contents out.old) (W.contents out.new) bytes.now }
-{
-    out.write_all(bytes).is_ok()
-}
-
-// The same of words.
-pub fn give_words<W: Write>(out: &mut W, words: &[u64], buf: &mut [u8]) -> bool
-    ensures { result ≡ true → Appends (W.contents out.old) (W.contents out.new) (word_bytes words.now) }
+// Writes words; their bytes pass through a buffer.
+pub fn give_words<W: Write>(out: &mut W, words: &[u64], buf: &mut [u8]) -> io::Result<()>
+    ensures { OnOk result (Appends (W.contents out.old) (W.contents out.new) (word_bytes words.now)) }
 {
     let n = words.len();
-    if n <= buf.len() / 8 {
-        to_bytes(words, buf);
-        return give(out, part(buf, 8 * n));
+    if buf.len() / WORD < n {
+        return Err(ErrorKind::InvalidInput.into());
     }
-    false
+    to_bytes(words, buf);
+    out.write_all(&buf[..WORD * n])
 }
 
 pub fn give_reply<W: Write>(
@@ -176,8 +186,8 @@ pub fn give_reply<W: Write>(
     len: usize,
     told: u16,
     to: u16,
-) -> bool
-    ensures { result ≡ true → Appends (W.contents out.old) (W.contents out.new) (reply_bytes status told dword len to) }
+) -> io::Result<()>
+    ensures { OnOk result (Appends (W.contents out.old) (W.contents out.new) (reply_bytes status told dword len to)) }
 {
     let mut reply = [0u8; REPLY];
     octets::put(&mut reply, 0, 2, status as u64);
@@ -185,12 +195,12 @@ pub fn give_reply<W: Write>(
     octets::put(&mut reply, 4, 4, dword as u64);
     octets::put(&mut reply, 8, 4, len as u64);
     octets::put(&mut reply, 12, 2, to as u64);
-    give(out, &reply)
+    out.write_all(&reply)
 }
 
 // What has a status and nothing beside it.
-pub fn give_status<W: Write>(out: &mut W, status: u16) -> bool
-    ensures { result ≡ true → Appends (W.contents out.old) (W.contents out.new) (reply_bytes status 0 0 0 0) }
+pub fn give_status<W: Write>(out: &mut W, status: u16) -> io::Result<()>
+    ensures { OnOk result (Appends (W.contents out.old) (W.contents out.new) (reply_bytes status 0 0 0 0)) }
 {
     give_reply(out, status, 0, 0, 0, 0)
 }

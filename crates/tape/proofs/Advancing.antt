@@ -1,13 +1,12 @@
 -- One turn after another on a piece, as the functions take them.
 use mathlib.Core.Path.{◌≡◌, refl, sym, ap, ◌∙◌}
-use mathlib.Core.Bool.{Bool, true, false}
+use mathlib.Core.Bool.{Bool, true, false, not}
 use mathlib.Core.List.{List}
 use Prim.Native.Nat.{ℕ, zero, suc, ◌+◌, ◌-◌, ◌≤◌, ◌<◌}
 use native.Mathlib.Omega.{arith}
 use borrow.Author.Tests.{lt-ltb, le-ltb}
 use lib.ListN.{length, take, drop, length-drop}
 use lib.Seq.{length-sets}
-use Rattle.octets.proofs.Runs.{part_same}
 use Rattle.tape.specs.Text.{Put}
 use Rattle.tape.specs.Tape.{next_set, next_item}
 use Rattle.tape.specs.Printout.{item_length, set_length}
@@ -56,46 +55,44 @@ module _ (p : Progress) (words bodies out piece : List ℕ) (last : Bool) where
       }
 
   module _
-      (t : Progress) (line₀ line words' bodies' : List ℕ)
-      (turned : Turned (turn_at p.stage p.count words bodies (take (length piece - p.used) (drop p.used piece)) last) line₀ t words' bodies' line)
+      (t : Progress) (line words' bodies' : List ℕ)
+      (part_turned : Turned (turn_at p.stage p.count words bodies (take (length piece - p.used) (drop p.used piece)) last) t words' bodies' line)
       (room : line_room ≤ length out - p.len) (here : p.used ≤ length piece) (there : p.len ≤ length out) where
-    rest_turned : Turned (turn_at p.stage p.count words bodies (drop p.used piece) last) line₀ t words' bodies' line
-    rest_turned = rw (rest_all piece p.used) at turned
+    turned : Turned (turn_at p.stage p.count words bodies (drop p.used piece) last) t words' bodies' line
+    turned = rw (rest_all piece p.used) at part_turned
 
-    -- so there is room for its line, and the sum of what is used fits
-    pub line_fits : length line ≡ line_room → (t.len ≤ length line) × (p.len + t.len ≤ length out)
-    line_fits e =
-        let q = rest_turned in
-        let n : t.len ≡ length (turn_at p.stage p.count words bodies (drop p.used piece) last).text = ap (λ (x : Progress). x.len) q.progress_is in
-        (omega (arith, q.within), omega (arith, q.within))
-
+    -- so the sum of what is used fits
     pub used_fits : p.used + t.used ≤ length piece
     used_fits =
-        let q = rest_turned in
-        let n : t.used ≡ (turn_at p.stage p.count words bodies (drop p.used piece) last).used = ap (λ (x : Progress). x.used) q.progress_is in
+        let n : t.used ≡ (turn_at p.stage p.count words bodies (drop p.used piece) last).used = ap (λ (x : Progress). x.used) turned.progress_is in
         omega (arith, turn_used p.stage p.count words bodies (drop p.used piece) last, length-drop p.used piece)
 
     pub advanced_moved :
-        (out' : List ℕ) (end : ℕ) (r : Progress) → Put out p.len (take t.len line) out' end
+        (out' : List ℕ) (end : ℕ) (r : Progress) → Put out p.len line out' end
         → r ≡ progress t.stage t.count (p.used + t.used) end t.going
         → Advanced (player p words bodies out) piece last (player r words' bodies' out')
     unfolding advanced
     advanced_moved out' end r put e =
         let T = turn_at p.stage p.count words bodies (drop p.used piece) last in
-        let q = rest_turned in
-        let n : t.len ≡ length T.text = ap (λ (x : Progress). x.len) q.progress_is in
-        let long : length line ≡ length line₀ = ap length q.text ∙ length-sets line₀ 0 T.text in
-        let text : take t.len line ≡ T.text = rw q.text (part_same T.text line₀ 0 t.len (sym n) (omega (arith, q.within))) in
-        let put' : Put out p.len T.text out' end = rw text at put in
+        let q = turned in
+        let put' : Put out p.len T.text out' end = rw q.text at put in
         let moves : r ≡ progress T.stage T.count (p.used + T.used) (p.len + length T.text) T.going = cc q.progress_is in
         record {
           is = rw (le-ltb (length out - p.len) line_room room) (cc);
           used_within = rw e used_fits;
           text_within = rw e put.within;
-          same_room = ap length put.bytes ∙ length-sets out p.len (take t.len line);
+          same_room = ap length put.bytes ∙ length-sets out p.len line;
         }
 
 -- ---- turns one after another: what is left to do
+
+pub goes : (b : Bool) → not b ≡ false → b ≡ true
+goes true e = refl
+goes false e = sym e
+
+pub stops : (b : Bool) → not b ≡ true → b ≡ false
+stops true e = sym e
+stops false e = refl
 
 pub turns_again :
     (k : ℕ) (piece : List ℕ) (last : Bool) (g h all : Player) → 0 < k → Advanced g piece last h → h.at.going ≡ true → turns k piece last g ≡ all

@@ -7,7 +7,7 @@ pub one_line : OneLine
 one_line before at text v w m n h k = (h.bytes ∙ sym k.bytes, h.place ∙ sym k.place)
 
 pub one_play : OnePlay
-one_play ws i line₀ m n v w x y h k = (h.count ∙ sym k.count, h.table ∙ sym k.table, h.text ∙ sym k.text)
+one_play ws i v w x y h k = (h.table ∙ sym k.table, h.text ∙ sym k.text)
 
 pub one_piece : OnePiece
 one_piece p words₀ bodies₀ out₀ piece last q r v w x y m n h k =

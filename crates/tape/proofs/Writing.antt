@@ -1,17 +1,22 @@
 -- Text put piece by piece: a turn of each loop, and how long each piece is.
-use mathlib.Core.Path.{◌≡◌, refl, sym, ap, ap₂, ◌∙◌}
+use mathlib.Core.Path.{◌≡◌, refl, sym, ap, ◌∙◌}
 use mathlib.Core.List.{List, [], ◌∷◌, ◌++◌}
 use mathlib.Core.Logic.{inr}
 use Prim.Native.Nat.{ℕ, zero, suc, ◌+◌, ◌*◌, ◌-◌, ◌/◌, ◌%◌, ◌^◌, ◌≤◌, ◌<◌}
 use native.Mathlib.Omega.{arith}
-use native.Mathlib.Nat.{add-suc, pow-suc, lt_trans, lt_of_lt_of_le, mod-lt}
+use native.Mathlib.Nat.{pow-suc, lt_trans, lt_of_lt_of_le, mod-lt}
 use native.Mathlib.Numerals.{add-one}
 use borrow.Author.Tests.{lt-ltb, le-ltb}
 use lib.Dec.{lit<}
-use lib.ListN.{length, length-append, length-set, get_or, set, drop}
-use lib.Seq.{sets, length-sets, drop-cons, drop-length}
+use lib.ListN.{length, length-append, set, take, drop}
+use lib.Seq.{sets, length-sets}
+use borrow.Rule.Slice.PartMut.{put_mid}
+use Rattle.std.proofs.Common.{append_assoc, length-take-le}
+use Rattle.std.proofs.lemmas.List.{take_at}
+use Rattle.std.proofs.lemmas.List.Edits.{sets-eq, paste_all}
+use Rattle.std.proofs.lemmas.Slice.{put_mid-paste}
 use Rattle.octets.proofs.Runs.{set_sets, sets_join}
-use Rattle.tape.specs.Text.{digit_of, digits_of, hex_of, places_below, places, data_hex, data_text, Put}
+use Rattle.tape.specs.Text.{digit_of, digits_of, hex_of, places_below, places, data_hex, Put}
 
 pub length_digits : (base w v : ℕ) → length (digits_of base w v) ≡ w
 length_digits base zero v = refl
@@ -75,72 +80,30 @@ counted_end n k rest c h = (omega (arith, c.left, one_place (20 - k) rest h), c.
 
 -- ---- pieces one after another
 
--- a place within bytes lies within what is put into them
-pub still_within : (before : List ℕ) (at next : ℕ) (text after : List ℕ) → after ≡ sets before at text → next ≤ length before → next ≤ length after
-still_within before at next text after e h = rw (e, length-sets) h
+-- what a part of bytes is after others are copied to it
+pub put_mid_sets : (a k : ℕ) (xs ys : List ℕ) → k ≡ length ys → a + length ys ≤ length xs → put_mid a k xs ys ≡ sets xs a ys
+put_mid_sets a k xs ys e h =
+    put_mid-paste a k xs ys ys (length ys) refl (sym e) refl
+    ∙ paste_all xs a ys (length ys) refl
+    ∙ sym (append_assoc (take a xs) ys (drop (a + length ys) xs))
+    ∙ sym (sets-eq ys xs a h)
 
-pub put_digits :
-    (before : List ℕ) (at base width v : ℕ) (after : List ℕ) → after ≡ sets before at (digits_of base width v) → at + width ≤ length before
-    → Put before at (digits_of base width v) after (at + width)
-put_digits before at base width v after e h =
-    record {
-      bytes = e;
-      place = omega (arith, length_digits base width v);
-      within = still_within before at (at + width) (digits_of base width v) after e h;
-    }
+-- text that is put after the first bytes
+pub grown : (l xs : List ℕ) (at k : ℕ) → k ≡ length xs → at + k ≤ length l → take (at + k) (sets l at xs) ≡ take at l ++ xs
+grown l xs at k e h =
+    let room : at + length xs ≤ length l = omega arith in
+    let long : length (take at l ++ xs) ≡ at + k = omega (arith, length-append (take at l) xs, length-take-le at l (omega arith)) in
+    ap (take (at + k)) (sets-eq xs l at room) ∙ take_at (take at l ++ xs) (drop (at + length xs) l) (at + k) long
 
-pub put_places :
-    (before : List ℕ) (at base k width v : ℕ) (after : List ℕ) → after ≡ sets before at (digits_of base k v) → k ≡ width → at + k ≤ length before
-    → Put before at (digits_of base width v) after (at + k)
-put_places before at base k width v after e p h =
-    record {
-      bytes = rw (← p) e;
-      place = omega (arith, p, length_digits base width v);
-      within = still_within before at (at + k) (digits_of base k v) after e h;
-    }
+-- text after text
+pub then : (l m n xs ys : List ℕ) → m ≡ l ++ xs → n ≡ m ++ ys → n ≡ l ++ (xs ++ ys)
+then l m n xs ys p q = q ∙ ap (λ (k : List ℕ). k ++ ys) p ∙ append_assoc l xs ys
 
-pub text_turn : (l text : List ℕ) (at i : ℕ) → i < length text → sets (set l (at + i) (get_or text i 0)) (at + (i + 1)) (drop (i + 1) text) ≡ sets l (at + i) (drop i text)
-text_turn l text at i h = rw (drop-cons text i 0 h, add-one, add-suc)
-
-pub text_end :
-    (l text before : List ℕ) (at i : ℕ) → i ≡ length text → sets l (at + i) (drop i text) ≡ sets before at text → at + i ≤ length l
-    → Put before at text l (at + i)
-text_end l text before at i e h w = record { bytes = rw (e, drop-length) at h; place = rw e; within = w }
-
-pub then : (l m n xs ys : List ℕ) (a b c : ℕ) → Put l a xs m b → Put m b ys n c → Put l a (xs ++ ys) n c
-then l m n xs ys a b c p q =
-    record {
-      bytes = q.bytes ∙ ap₂ (λ (x : List ℕ) (k : ℕ). sets x k ys) p.bytes p.place ∙ sets_join xs ys l a;
-      place = q.place ∙ omega (arith, p.place, length-append xs ys);
-      within = q.within;
-    }
+pub put_after : (before text after : List ℕ) (at next : ℕ) → after ≡ sets before at text → next ≡ at + length text → at + length text ≤ length before → Put before at text after next
+put_after before text after at next e n h = record { bytes = e; place = n; within = rw (n, e, length-sets) h }
 
 -- ---- data
-
-pub data_turn : (l bytes : List ℕ) (to i : ℕ) → i < length bytes
-    → sets (sets l to (hex_of 2 (get_or bytes i 0))) (to + 2) (data_hex (drop (i + 1) bytes)) ≡ sets l to (data_hex (drop i bytes))
-data_turn l bytes to i h =
-    let xs = hex_of 2 (get_or bytes i 0) in
-    rw (drop-cons bytes i 0 h, add-one) (sets_join xs (data_hex (drop (suc i) bytes)) l to)
-
-pub data_end : (l bytes : List ℕ) (to i : ℕ) → i ≡ length bytes → sets l to (data_hex (drop i bytes)) ≡ l
-data_end l bytes to i e = rw (e, drop-length)
 
 pub length_data : (bytes : List ℕ) → length (data_hex bytes) ≡ 2 * length bytes
 length_data [] = refl
 length_data (b ∷ bs) = length-append (hex_of 2 b) (data_hex bs) ∙ omega (arith, length_digits 16 2 b, length_data bs)
-
-pub put_data_none : (l bytes : List ℕ) (at : ℕ) → length bytes ≡ 0 → at ≤ length l → Put l at (data_text bytes) l at
-put_data_none l [] at e h = record { bytes = refl; place = omega arith; within = h }
-put_data_none l (b ∷ bs) at e h = absurd (omega arith)
-
-pub put_data_some :
-    (l bytes after : List ℕ) (at next : ℕ) → (length bytes ≡ 0 → ⊥) → after ≡ sets (set l at 32) (at + 1) (data_hex bytes) → next ≡ at + 1 + 2 * length bytes
-    → at + 1 + 2 * length bytes ≤ length l → Put l at (data_text bytes) after next
-put_data_some l [] after at next n e p h = absurd (n refl)
-put_data_some l (b ∷ bs) after at next n e p h =
-    record {
-      bytes = e ∙ ap (λ (k : ℕ). sets (set l at 32) k (data_hex (b ∷ bs))) (add-one at);
-      place = omega (arith, p, length_data (b ∷ bs));
-      within = rw (p, e, length-sets, length-set) h;
-    }

@@ -12,11 +12,9 @@ use Rattle.tape.specs.declared.Progress.{Progress}
 abbrev pub OneLine : Type 0
 OneLine = (before : List ℕ) (at : ℕ) (text v w : List ℕ) (m n : ℕ) → Put before at text v m → Put before at text w n → (v ≡ w) × (m ≡ n)
 
--- an item that is played: the line's length, every word of the table, and every byte of the line
+-- an item that is played: every word of the table, and every byte of the line, and so its length
 abbrev pub OnePlay : Type 0
-OnePlay =
-    (ws : List ℕ) (i : Option Item) (line₀ : List ℕ) (m n : ℕ) (v w x y : List ℕ) → Played ws i line₀ m v x → Played ws i line₀ n w y
-    → (m ≡ n) × (v ≡ w) × (x ≡ y)
+OnePlay = (ws : List ℕ) (i : Option Item) (v w x y : List ℕ) → Played ws i v x → Played ws i w y → (v ≡ w) × (x ≡ y)
 
 -- a piece that is played: how far the tape is, every word of the table, and every byte of the bodies and of the buffer
 abbrev pub OnePiece : Type 0

@@ -1,5 +1,6 @@
 pub mod Text
 pub mod Tape
+pub mod Kinds
 pub mod Printout
 pub mod Pieces
 pub mod Turning

@@ -1,7 +1,6 @@
 -- 01, "Replay file and its printout": the file. "One byte of kind, then a body".
-use Rattle.std.specs.Prelude.{◌≡◌, Bool, ◌&&◌, List, [], ◌∷◌, ◌++◌, ℕ, ◌+◌, ◌≤◌, eqb, ltb, leb, length, get_or, take, drop, if◌then◌else◌}
+use Rattle.std.specs.Prelude.{◌≡◌, Bool, ◌&&◌, List, [], ◌∷◌, ◌++◌, ℕ, ◌+◌, eqb, ltb, leb, length, get_or, take, drop, if◌then◌else◌}
 use Rattle.std.proofs.Math.Option.{Option, none, some}
-use Rattle.std.proofs.lemmas.List.Edits.{sets}
 use Rattle.octets.specs.Numbers.{number_at}
 use Rattle.pages.specs.Features.{feature_size}
 use Rattle.pages.specs.Bodies.{body_size}
@@ -75,12 +74,10 @@ abbrev pub line_for : List ℕ → Option Item → List ℕ
 line_for ws none = []
 line_for ws (some i) = item_line (step_words ws i).answer ++ notice_line (step_words ws i).notice
 
--- what playing an item promises: every word of the table, every byte of the line, and the line's length, for which there is room
-pub record Played (ws : List ℕ) (i : Option Item) (line₀ : List ℕ) (n : ℕ) (words line : List ℕ) : Type 0 where
+-- what playing an item promises: every word of the table, and every byte of the line's text
+pub record Played (ws : List ℕ) (i : Option Item) (words line : List ℕ) : Type 0 where
   pub table : words ≡ words_after ws i
-  pub text : line ≡ sets line₀ 0 (line_for ws i)
-  pub count : n ≡ length (line_for ws i)
-  pub within : n ≤ length line
+  pub text : line ≡ line_for ws i
 
 -- ---- what comes next, of the bytes that were read and not yet used; `last` says that the file has no more
 

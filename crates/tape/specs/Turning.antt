@@ -1,16 +1,14 @@
 -- Only for functions inside the crate.
 use Rattle.std.specs.Prelude.{◌≡◌, Bool, List, ℕ, ◌≤◌, length}
-use Rattle.std.proofs.lemmas.List.Edits.{sets}
 use Rattle.tape.specs.Pieces.{progress, Turn, Player, advanced}
 use Rattle.tape.specs.declared.Progress.{Progress}
 
--- what a turn's function leaves: its line lies at the start of an array
-pub record Turned (t : Turn) (line₀ : List ℕ) (r : Progress) (words bodies line : List ℕ) : Type 0 where
+-- what a turn's function leaves: its line, and how long it is
+pub record Turned (t : Turn) (r : Progress) (words bodies line : List ℕ) : Type 0 where
   pub progress_is : r ≡ progress t.stage t.count t.used (length t.text) t.going
   pub table : words ≡ t.words
   pub kept : bodies ≡ t.bodies
-  pub text : line ≡ sets line₀ 0 t.text
-  pub within : length t.text ≤ length line
+  pub text : line ≡ t.text
 
 -- for the function that takes one turn: how far it is lies within the piece and the buffer still
 pub record Advanced (g : Player) (piece : List ℕ) (last : Bool) (h : Player) : Type 0 where

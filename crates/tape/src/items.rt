@@ -1,12 +1,14 @@
 // The items of a tape, and what stands next on it.
-ghost use Rattle.std.specs.Prelude.{◌≡◌, ◌&&◌, [], ◌<◌, ◌≤◌, ltb, eqb, length, drop};
+ghost use Rattle.std.specs.Prelude.{◌≡◌, ◌&&◌, [], ◌<◌, ◌≤◌, length, IfSome, IsNone};
 ghost use Rattle.std.proofs.Math.Option.{some};
 ghost use Rattle.octets.specs.Numbers.{number_at};
 ghost use Rattle.steps.specs.Items.{Item, item_of};
-ghost use Rattle.tape.specs.Tape.{item_size, answer_size, media_item, item_by, item_in, Played, next_body, next_set, next_item};
+ghost use Rattle.tape.specs.Tape.{item_size, answer_size, item_by, item_in, Played, next_body, next_set, next_item};
+ghost use Rattle.tape.specs.Kinds.{kind_number};
 
 use crate::Next;
-use crate::lines::{LINE, item_line, notice_line};
+use crate::lines::{item_line, notice_line};
+use crate::text::Line;
 use card::commanded::command_part;
 use card::media::{event, ticks};
 use octets::numbers::{short, word};
@@ -15,48 +17,83 @@ use record::SetId;
 use replies::notice_of;
 use rules::Media;
 
-const KINDS: usize = 7;
-
-const SIZES: [usize; KINDS] = [0, 64, 576, 4, 4, 2, 4];
-
 const ATTRIBUTES_KIND: u8 = 7;
 
 const COMMAND_SIZE: usize = 64;
 
+const DATA_SIZE: usize = 512;
+
 const ANSWER_SIZE: usize = 4096;
 
-// How long an item's body is; 0 where the kind is none of an item's.
-pub fn item_size(kind: u8) -> usize
-    ensures { result ≡ item_size kind }
+// A kind of item.
+#[derive(Clone, Copy, PartialEq, Eq)]
+pub enum Kind {
+    Command,
+    CommandWithData,
+    Reads,
+    Writes,
+    Excursion,
+    Tick,
+}
+
+impl Kind {
+    // The kind with a number; none where it is no item's.
+    pub fn of(number: u8) -> Option<Kind>
+        ensures some { IfSome result (λ kind. kind_number kind ≡ number) }
+        ensures none { IsNone result → item_size number ≡ 0 }
+    {
+        match number {
+            1 => Some(Kind::Command),
+            2 => Some(Kind::CommandWithData),
+            3 => Some(Kind::Reads),
+            4 => Some(Kind::Writes),
+            5 => Some(Kind::Excursion),
+            6 => Some(Kind::Tick),
+            _ => None,
+        }
+    }
+
+    // How long an item's body is.
+    pub fn size(self) -> usize
+        ensures { (result ≡ item_size (kind_number self)) × (0 < result) }
+    {
+        match self {
+            Kind::Command => COMMAND_SIZE,
+            Kind::CommandWithData => COMMAND_SIZE + DATA_SIZE,
+            Kind::Reads | Kind::Writes | Kind::Tick => 4,
+            Kind::Excursion => 2,
+        }
+    }
+}
+
+// How long the body of a kind with a number is; none where it is no item's.
+pub fn item_size(number: u8) -> Option<usize>
+    ensures some { IfSome result (λ size. (size ≡ item_size number) × (0 < size)) }
+    ensures none { IsNone result → item_size number ≡ 0 }
 {
-    let sizes = SIZES;
-    let i = kind as usize;
-    if i < KINDS { sizes[i] } else { 0 }
+    Some(Kind::of(number)?.size())
 }
 
 // A media event of a set.
-fn play_event(table: &mut [u64], line: &mut [u8; LINE], set: u16, m: Media) -> usize
-    ensures { Played table.old (some (item_of set m)) line.old result table.new line.new }
+fn play_event(table: &mut [u64], line: &mut Line, set: u16, m: Media)
+    ensures { Played table.old (some (item_of set m)) table.new line.new }
 {
     let r = event(table, SetId(set), m);
-    let notice = r.notice;
-    let end = item_line(line, r.status, r.dword, b"");
-    notice_line(line, end, notice)
+    item_line(line, r.status, r.dword, b"");
+    notice_line(line, r.notice);
 }
 
-fn play_tick(table: &mut [u64], line: &mut [u8; LINE], t: u32) -> usize
-    ensures { Played table.old (some (Item.tick t answer_size)) line.old result table.new line.new }
+fn play_tick(table: &mut [u64], line: &mut Line, t: u32)
+    ensures { Played table.old (some (Item.tick t answer_size)) table.new line.new }
 {
     let mut answer = [0u8; ANSWER_SIZE];
     let r = ticks(table, t, &mut answer);
-    let n = r.len;
-    let notice = r.notice;
-    let end = item_line(line, r.status, r.dword, &answer[0..n]);
-    notice_line(line, end, notice)
+    item_line(line, r.status, r.dword, &answer[..r.len]);
+    notice_line(line, r.notice);
 }
 
-fn play_command(table: &mut [u64], line: &mut [u8; LINE], bytes: &[u8], given: &[u8]) -> usize
-    ensures { Played table.old (some (Item.command bytes.now given.now answer_size)) line.old result table.new line.new }
+fn play_command(table: &mut [u64], line: &mut Line, bytes: &[u8], given: &[u8])
+    ensures { Played table.old (some (Item.command bytes.now given.now answer_size)) table.new line.new }
 {
     let mut answer = [0u8; ANSWER_SIZE];
     let mut status = 0;
@@ -73,53 +110,34 @@ fn play_command(table: &mut [u64], line: &mut [u8; LINE], bytes: &[u8], given: &
         &mut told,
         &mut to,
     );
-    let end = item_line(line, status, dword, part);
-    notice_line(line, end, notice_of(told, to))
+    item_line(line, status, dword, part);
+    notice_line(line, notice_of(told, to));
 }
 
-fn play_media(table: &mut [u64], line: &mut [u8; LINE], kind: u8, body: &[u8]) -> usize
-    requires { (2 ≤ length body.now) × (kind < 5 → 4 ≤ length body.now) }
-    ensures { Played table.old (some (media_item kind (number_at body.now 0 2) (number_at body.now 2 2))) line.old result table.new line.new }
+fn play_item(table: &mut [u64], line: &mut Line, kind: Kind, body: &[u8])
+    requires { length body.now ≡ item_size (kind_number kind) }
+    ensures { Played table.old (some (item_by (kind_number kind) body.now)) table.new line.new }
 {
-    let set = short(body, 0);
-    if kind == 3 {
-        play_event(table, line, set, Media::Reads(short(body, 2)))
-    } else if kind == 4 {
-        play_event(table, line, set, Media::Writes(short(body, 2)))
-    } else {
-        play_event(table, line, set, Media::Excursion)
+    match kind {
+        Kind::Command => play_command(table, line, body, b""),
+        Kind::CommandWithData => {
+            play_command(table, line, &body[..COMMAND_SIZE], &body[COMMAND_SIZE..]);
+        }
+        Kind::Reads => play_event(table, line, short(body, 0), Media::Reads(short(body, 2))),
+        Kind::Writes => play_event(table, line, short(body, 0), Media::Writes(short(body, 2))),
+        Kind::Excursion => play_event(table, line, short(body, 0), Media::Excursion),
+        Kind::Tick => play_tick(table, line, word(body, 0)),
     }
 }
 
-fn play_item(table: &mut [u64], line: &mut [u8; LINE], kind: u8, body: &[u8]) -> usize
-    requires { (0 < item_size kind) × (length body.now ≡ item_size kind) }
-    ensures { Played table.old (some (item_by kind body.now)) line.old result table.new line.new }
+// The item of a kind and a body: what it does to the table, and its line. Where they are no item, nothing is done and the line is
+// empty.
+pub fn play(table: &mut [u64], line: &mut Line, kind: u8, body: &[u8])
+    ensures { Played table.old (item_in kind body.now) table.new line.new }
 {
-    if kind < 3 {
-        play_command(table, line, &body[0..COMMAND_SIZE], &body[COMMAND_SIZE..])
-    } else if kind == 6 {
-        play_tick(table, line, word(body, 0))
-    } else {
-        play_media(table, line, kind, body)
-    }
-}
-
-fn is_item(kind: u8, len: usize) -> bool
-    ensures { result ≡ ltb 0 (item_size kind) && eqb len (item_size kind) }
-{
-    let size = item_size(kind);
-    (0 < size) & (len == size)
-}
-
-// The item of a kind and a body: what it does to the table, and its line, whose length is the answer. Where they are no item,
-// nothing is done and there is no line.
-pub fn play(table: &mut [u64], line: &mut [u8; LINE], kind: u8, body: &[u8]) -> usize
-    ensures { Played table.old (item_in kind body.now) line.old result table.new line.new }
-{
-    if is_item(kind, body.len()) {
-        play_item(table, line, kind, body)
-    } else {
-        0
+    match Kind::of(kind) {
+        Some(kind) if body.len() == kind.size() => play_item(table, line, kind, body),
+        _ => line.clear(),
     }
 }
 
@@ -145,7 +163,7 @@ fn next_none(last: bool) -> Next
 pub fn next_set(left: &[u8], last: bool) -> Next
     ensures { result ≡ next_set left.now last }
 {
-    if left.len() == 0 {
+    if left.is_empty() {
         return next_none(last);
     }
     if left[0] == ATTRIBUTES_KIND {
@@ -159,13 +177,11 @@ pub fn next_set(left: &[u8], last: bool) -> Next
 pub fn next_item(left: &[u8], last: bool) -> Next
     ensures { result ≡ next_item left.now last }
 {
-    if left.len() == 0 {
+    if left.is_empty() {
         return next_none(last);
     }
-    let size = item_size(left[0]);
-    if 0 < size {
-        next_body(size, left.len() - 1, last)
-    } else {
-        Next::Bad
+    match item_size(left[0]) {
+        Some(size) => next_body(size, left.len() - 1, last),
+        None => Next::Bad,
     }
 }

@@ -4,7 +4,7 @@
 pub mod items;
 pub mod lines;
 pub mod pieces;
-mod text;
+pub mod text;
 
 // What stands next on the tape: a whole body, one that is not all read yet, one that is cut or of no known kind, or nothing more.
 #[derive(Clone, Copy)]

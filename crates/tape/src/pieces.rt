@@ -1,5 +1,6 @@
 // A tape, played piece by piece as it is read.
-ghost use Rattle.std.specs.Prelude.{◌≡◌, [], ◌+◌, ◌*◌, ◌≤◌, min, length, take};
+ghost use Rattle.std.specs.Prelude.{◌≡◌, [], ◌+◌, ◌*◌, ◌<◌, ◌≤◌, min, length, get_or};
+ghost use Rattle.std.proofs.lemmas.List.Edits.{sets};
 ghost use Rattle.pages.specs.Bodies.{body_size};
 ghost use Rattle.steps.specs.SetUp.{with_body, first_bodies, set_up};
 ghost use Rattle.tape.specs.Text.{Put};
@@ -10,8 +11,8 @@ ghost use Rattle.tape.specs.Turning.{Turned, Advanced};
 ghost use Rattle.tape.specs.declared.Next.TheVariants.{Whole};
 
 use crate::items::{item_size, next_item, next_set, play};
-use crate::lines::{LINE, bad_line, end_line, sets_line};
-use crate::text::put_text;
+use crate::lines::{bad_line, end_line, sets_line};
+use crate::text::{LINE, Line};
 use crate::{Next, Progress, Stage};
 use card::set_up::set_up;
 use pages::bodies::BODY;
@@ -44,10 +45,18 @@ pub fn at_start() -> Progress
     made(Stage::Sets, 0, 0, 0, true)
 }
 
+// Bytes put at a place.
+fn put(out: &mut [u8], at: usize, bytes: &[u8])
+    requires { at + length bytes.now ≤ length out.old }
+    ensures { out.new ≡ sets out.old at bytes.now }
+{
+    out[at..at + bytes.len()].copy_from_slice(bytes);
+}
+
 fn one_more(n: u64) -> u64
     ensures { result ≡ one_more n }
 {
-    if n < u64::MAX { n + 1 } else { n }
+    n.saturating_add(1)
 }
 
 // ---- the sets
@@ -58,7 +67,7 @@ fn keep(bodies: &mut [u8], n: u64, body: &[u8])
     ensures { bodies.new ≡ with_body bodies.old n body.now }
 {
     if n < MOST as u64 {
-        put_text(bodies, n as usize * BODY, body);
+        put(bodies, n as usize * BODY, body);
     }
 }
 
@@ -66,47 +75,43 @@ fn keep(bodies: &mut [u8], n: u64, body: &[u8])
 fn kept_len(n: u64) -> usize
     ensures { result ≡ min n most_bodies * body_size }
 {
-    if n < MOST as u64 {
-        n as usize * BODY
-    } else {
-        BODIES
-    }
+    n.min(MOST as u64) as usize * BODY
 }
 
-fn set_up_turn(table: &mut [u64], bodies: &[u8], line: &mut [u8; LINE], n: u64) -> Progress
+fn set_up_turn(table: &mut [u64], bodies: &[u8], line: &mut Line, n: u64) -> Progress
     requires { length bodies.now ≡ bodies_room }
-    ensures { Turned (set_up_turn n (set_up (first_bodies bodies.now n) table.old) bodies.now) line.old result table.new bodies.now line.new }
+    ensures { Turned (set_up_turn n (set_up (first_bodies bodies.now n) table.old) bodies.now) result table.new bodies.now line.new }
 {
     let size = kept_len(n);
-    let status = set_up(table, &bodies[0..size]);
-    let len = sets_line(line, n, status);
+    let status = set_up(table, &bodies[..size]);
+    sets_line(line, n, status);
     if status == SUCCESS {
-        made(Stage::Items, 0, 0, len, true)
+        made(Stage::Items, 0, 0, line.len(), true)
     } else {
-        made(Stage::Ended, 0, 0, len, false)
+        made(Stage::Ended, 0, 0, line.len(), false)
     }
 }
 
 fn set_turn(
     table: &mut [u64],
     bodies: &mut [u8; BODIES],
-    line: &mut [u8; LINE],
+    line: &mut Line,
     left: &[u8],
     last: bool,
     n: u64,
 ) -> Progress
-    ensures { Turned (set_turn (next_set left.now last) n table.old bodies.old left.now) line.old result table.new bodies.new line.new }
+    requires { line.old ≡ [] }
+    ensures { Turned (set_turn (next_set left.now last) n table.old bodies.old left.now) result table.new bodies.new line.new }
 {
-    let next = next_set(left, last);
-    match next {
+    match next_set(left, last) {
         Next::Whole => {
             keep(bodies, n, &left[1..1 + BODY]);
             made(Stage::Sets, one_more(n), 1 + BODY, 0, true)
         }
         Next::Short => made(Stage::Sets, n, 0, 0, false),
         Next::Bad => {
-            let len = bad_line(line, 0);
-            made(Stage::Ended, n, 0, len, false)
+            bad_line(line, 0);
+            made(Stage::Ended, n, 0, line.len(), false)
         }
         Next::Over => set_up_turn(table, bodies, line, n),
     }
@@ -114,30 +119,30 @@ fn set_turn(
 
 // ---- the items
 
-fn play_first(table: &mut [u64], line: &mut [u8; LINE], left: &[u8], n: u64) -> Progress
-    requires { item_length left.now ≤ length left.now }
-    ensures { Turned (item_turn Whole n table.old [] left.now) line.old result table.new [] line.new }
+fn play_first(table: &mut [u64], line: &mut Line, left: &[u8], n: u64) -> Progress
+    requires { (0 < item_size (get_or left.now 0 0)) × (item_length left.now ≤ length left.now) }
+    ensures { Turned (item_turn Whole n table.old [] left.now) result table.new [] line.new }
 {
-    let kind = left[0];
-    let to = 1 + item_size(kind);
-    let len = play(table, line, kind, &left[1..to]);
-    made(Stage::Items, one_more(n), to, len, true)
+    let number = left[0];
+    let to = 1 + item_size(number).unwrap();
+    play(table, line, number, &left[1..to]);
+    made(Stage::Items, one_more(n), to, line.len(), true)
 }
 
-fn item_turn(table: &mut [u64], line: &mut [u8; LINE], left: &[u8], last: bool, n: u64) -> Progress
-    ensures { Turned (item_turn (next_item left.now last) n table.old [] left.now) line.old result table.new [] line.new }
+fn item_turn(table: &mut [u64], line: &mut Line, left: &[u8], last: bool, n: u64) -> Progress
+    requires { line.old ≡ [] }
+    ensures { Turned (item_turn (next_item left.now last) n table.old [] left.now) result table.new [] line.new }
 {
-    let next = next_item(left, last);
-    match next {
+    match next_item(left, last) {
         Next::Whole => play_first(table, line, left, n),
         Next::Short => made(Stage::Items, n, 0, 0, false),
         Next::Bad => {
-            let len = bad_line(line, n);
-            made(Stage::Ended, n, 0, len, false)
+            bad_line(line, n);
+            made(Stage::Ended, n, 0, line.len(), false)
         }
         Next::Over => {
-            let len = end_line(line, n);
-            made(Stage::Ended, n, 0, len, false)
+            end_line(line, n);
+            made(Stage::Ended, n, 0, line.len(), false)
         }
     }
 }
@@ -147,13 +152,14 @@ fn item_turn(table: &mut [u64], line: &mut [u8; LINE], left: &[u8], last: bool, 
 fn turn(
     table: &mut [u64],
     bodies: &mut [u8; BODIES],
-    line: &mut [u8; LINE],
+    line: &mut Line,
     left: &[u8],
     last: bool,
     stage: Stage,
     n: u64,
 ) -> Progress
-    ensures { Turned (turn_at stage n table.old bodies.old left.now last) line.old result table.new bodies.new line.new }
+    requires { line.old ≡ [] }
+    ensures { Turned (turn_at stage n table.old bodies.old left.now last) result table.new bodies.new line.new }
 {
     match stage {
         Stage::Sets => set_turn(table, bodies, line, left, last, n),
@@ -162,19 +168,20 @@ fn turn(
     }
 }
 
-// The first n bytes of a line, put after the text so far.
-fn append(out: &mut [u8], to: usize, line: &[u8], n: usize) -> usize
-    requires { (n ≤ length line.now) × (to + n ≤ length out.old) }
-    ensures { Put out.old to (take n line.now) out.new result }
+// Text put after the text so far; the place after it.
+fn append(out: &mut [u8], to: usize, text: &[u8]) -> usize
+    requires { to + length text.now ≤ length out.old }
+    ensures { Put out.old to text.now out.new result }
 {
-    put_text(out, to, &line[0..n])
+    put(out, to, text);
+    to + text.len()
 }
 
 // One turn more, if the longest line has room after the text so far.
 fn advance(
     table: &mut [u64],
     bodies: &mut [u8; BODIES],
-    line: &mut [u8; LINE],
+    line: &mut Line,
     out: &mut [u8],
     piece: &[u8],
     last: bool,
@@ -183,18 +190,21 @@ fn advance(
     requires { (p.used ≤ length piece.now) × (p.len ≤ length out.old) }
     ensures { Advanced (player p table.old bodies.old out.old) piece.now last (player result table.new bodies.new out.new) }
 {
-    let stage = p.stage;
-    let count = p.count;
-    let at = p.used;
-    let to = p.len;
-    if out.len() - to < LINE {
-        return made(stage, count, at, to, false);
+    if out.len() - p.len < LINE {
+        return Progress { going: false, ..p };
     }
-    let t = turn(table, bodies, line, &piece[at..], last, stage, count);
-    let n = t.len;
-    let end = append(out, to, line, n);
-    let next = t.stage;
-    made(next, t.count, at + t.used, end, t.going)
+    line.clear();
+    let t = turn(
+        table,
+        bodies,
+        line,
+        &piece[p.used..],
+        last,
+        p.stage,
+        p.count,
+    );
+    let end = append(out, p.len, line.as_bytes());
+    made(t.stage, t.count, p.used + t.used, end, t.going)
 }
 
 // A tape played on with a piece of its file: the bytes that an earlier call left, and then those that were read since. `last` says
@@ -209,17 +219,12 @@ pub fn play_on(
 ) -> Progress
     ensures { PlayedOn p table.old bodies.old out.old piece.now last result table.new bodies.new out.new }
 {
-    let mut line = [0u8; LINE];
-    let stage = p.stage;
-    let mut g = made(stage, p.count, 0, 0, true);
-    let mut turns = TURNS;
-    while 0 < turns {
+    let mut line = Line::new();
+    let mut g = made(p.stage, p.count, 0, 0, true);
+    for _ in 0..TURNS {
         g = advance(table, bodies, &mut line, out, piece, last, g);
-        let more = g.going;
-        if more {
-            turns -= 1;
-        } else {
-            turns = 0;
+        if !g.going {
+            break;
         }
     }
     g

@@ -1,16 +1,108 @@
-// Pieces of text, put into bytes one after another. Each answers the place after it.
-ghost use Rattle.std.specs.Prelude.{◌≡◌, ◌+◌, ◌*◌, ◌<◌, ◌≤◌, length};
+// Text that is being written: a line, and room for the longest.
+ghost use Rattle.std.specs.Prelude.{◌≡◌, ℕ, ◌+◌, ◌*◌, ◌<◌, ◌≤◌, List, [], ◌∷◌, ◌++◌, length, take};
 ghost use Rattle.std.proofs.lemmas.List.Edits.{sets};
-ghost use Rattle.tape.specs.Text.{digit_of, digits_of, places, decimal_of, hex_of, data_hex, data_text, Put};
+ghost use Rattle.tape.specs.Text.{digit_of, digits_of, places, decimal_of, hex_of, data_hex, data_text};
+ghost use Rattle.tape.specs.Pieces.{line_room};
 
-use octets::casts::from_byte;
+use std::marker::Model;
+
+// The line of an item with 4,096 bytes of data, 4 + 1 + 8 + 1 + 8,192 + 1, and after it that of a notice, 4 + 1 + 8 + 1.
+pub const LINE: usize = 8221;
+
+#[derive(Drop)]
+pub struct Line {
+    bytes: [u8; LINE],
+    len: usize,
+}
+
+// Clauses see the text that is written so far.
+impl Model for Line {
+    ghost Value = { List ℕ };
+
+    ghost view = { λ l. take l.len l.bytes };
+
+    ghost invariant = { λ l. l.len ≤ line_room };
+}
+
+impl Line {
+    pub fn new() -> Line
+        ensures { result ≡ [] }
+    {
+        Line {
+            bytes: [0; LINE],
+            len: 0,
+        }
+    }
+
+    pub fn clear(&mut self)
+        ensures { self.new ≡ [] }
+    {
+        self.len = 0;
+    }
+
+    pub fn len(&self) -> usize
+        ensures { result ≡ length self.now }
+    {
+        self.len
+    }
+
+    pub fn as_bytes(&self) -> &[u8]
+        ensures { (result.now ≡ self.now) × (length self.now ≤ line_room) }
+    {
+        &self.bytes[..self.len]
+    }
+
+    pub(crate) fn text(&mut self, text: &[u8])
+        requires { length self.old + length text.now ≤ line_room }
+        ensures { self.new ≡ self.old ++ text.now }
+    {
+        let end = self.len + text.len();
+        self.bytes[self.len..end].copy_from_slice(text);
+        self.len = end;
+    }
+
+    fn digits(&mut self, base: u64, width: usize, v: u64)
+        requires { (length self.old + width ≤ line_room) × (2 ≤ base) × (base ≤ 16) }
+        ensures { self.new ≡ self.old ++ digits_of base width v }
+    {
+        put_digits(&mut self.bytes, self.len, base, width, v);
+        self.len += width;
+    }
+
+    pub(crate) fn hex(&mut self, width: usize, v: u64)
+        requires { length self.old + width ≤ line_room }
+        ensures { (self.new ≡ self.old ++ hex_of width v) × (length self.new ≡ length self.old + width) }
+    {
+        self.digits(16, width, v);
+    }
+
+    pub(crate) fn decimal(&mut self, n: u64)
+        requires { length self.old + 20 ≤ line_room }
+        ensures { (self.new ≡ self.old ++ decimal_of n) × (length self.new ≤ length self.old + 20) }
+    {
+        self.digits(10, places_of(n), n);
+    }
+
+    // Data after a space, two digits a byte, or nothing where there is none.
+    pub(crate) fn data(&mut self, bytes: &[u8])
+        requires { length self.old + 1 + 2 * length bytes.now ≤ line_room }
+        ensures { (self.new ≡ self.old ++ data_text bytes.now) × (length self.new ≤ length self.old + 1 + 2 * length bytes.now) }
+    {
+        if !bytes.is_empty() {
+            self.text(b" ");
+            for &byte in bytes {
+                self.hex(2, u64::from(byte));
+            }
+        }
+    }
+}
 
 fn digit(d: u64) -> u8
     requires { d < 16 }
     ensures { result ≡ digit_of d }
 {
     let d = d as u8;
-    if d < 10 { 48 + d } else { 55 + d }
+    if d < 10 { b'0' + d } else { b'A' - 10 + d }
 }
 
 // The last `width` digits of a number, written from the lowest to the highest.
@@ -19,20 +111,10 @@ fn put_digits(out: &mut [u8], at: usize, base: u64, width: usize, v: u64)
     ensures { out.new ≡ sets out.old at (digits_of base width v) }
 {
     let mut rest = v;
-    let mut left = width;
-    while 0 < left {
-        left -= 1;
+    for left in (0..width).rev() {
         out[at + left] = digit(rest % base);
-        rest = rest / base;
+        rest /= base;
     }
-}
-
-pub(crate) fn put_hex(out: &mut [u8], at: usize, width: usize, v: u64) -> usize
-    requires { at + width ≤ length out.old }
-    ensures { Put out.old at (hex_of width v) out.new result }
-{
-    put_digits(out, at, 16, width, v);
-    at + width
 }
 
 // How many decimal digits a number has.
@@ -42,56 +124,8 @@ fn places_of(n: u64) -> usize
     let mut k = 1;
     let mut rest = n;
     while 10 <= rest {
-        rest = rest / 10;
+        rest /= 10;
         k += 1;
     }
     k
-}
-
-pub(crate) fn put_decimal(out: &mut [u8], at: usize, n: u64) -> usize
-    requires { at + 20 ≤ length out.old }
-    ensures { Put out.old at (decimal_of n) out.new result × (result ≤ at + 20) }
-{
-    let k = places_of(n);
-    put_digits(out, at, 10, k, n);
-    at + k
-}
-
-pub(crate) fn put_text(out: &mut [u8], at: usize, text: &[u8]) -> usize
-    requires { at + length text.now ≤ length out.old }
-    ensures { Put out.old at text.now out.new result }
-{
-    let mut i = 0;
-    while i < text.len() {
-        out[at + i] = text[i];
-        i += 1;
-    }
-    at + i
-}
-
-// Two digits a byte.
-fn put_bytes(out: &mut [u8], at: usize, bytes: &[u8])
-    requires { at + 2 * length bytes.now ≤ length out.old }
-    ensures { out.new ≡ sets out.old at (data_hex bytes.now) }
-{
-    let mut to = at;
-    let mut i = 0;
-    while i < bytes.len() {
-        put_digits(out, to, 16, 2, from_byte(bytes[i]));
-        to += 2;
-        i += 1;
-    }
-}
-
-// Data after a space, or nothing where there is none.
-pub(crate) fn put_data(out: &mut [u8], at: usize, bytes: &[u8]) -> usize
-    requires { at + 1 + 2 * length bytes.now ≤ length out.old }
-    ensures { Put out.old at (data_text bytes.now) out.new result × (result ≤ at + 1 + 2 * length bytes.now) }
-{
-    if bytes.len() == 0 {
-        return at;
-    }
-    out[at] = 32;
-    put_bytes(out, at + 1, bytes);
-    at + 1 + 2 * bytes.len()
 }

@@ -8,7 +8,7 @@ invariant-loop g l =
     let left = g.R.Read.remaining in
     let held = g.W.Write.contents in
     record {
-      within : l.f.have ≤ length l.buf;
-      end : l.f.last ≡ true → IsAtEnd (left l.from);
-      plays : Plays (left l.fn.from) (left l.from) (held l.fn.to) (held l.to) l.wrote l.p l.table l.bodies (take l.f.have l.buf);
+      within : l.feed.have ≤ length l.buf;
+      end : l.feed.last ≡ true → IsAtEnd (left l.from);
+      plays : Plays (left l.fn.from) (left l.from) (held l.fn.to) (held l.to) l.wrote l.p l.table l.bodies (take l.feed.have l.buf);
     }

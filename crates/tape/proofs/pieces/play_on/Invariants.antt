@@ -1,7 +1,7 @@
 use mathlib.Core.Path.{◌≡◌}
 use mathlib.Core.Bool.{Bool}
 use mathlib.Core.List.{List}
-use Prim.Native.Nat.{ℕ, ◌≤◌}
+use Prim.Native.Nat.{ℕ, ◌-◌, ◌≤◌}
 use lib.ListN.{length}
 use Rattle.tape.specs.Pieces.{player, turns, most_turns}
 use Rattle.tape.specs.declared.Progress.{Progress}
@@ -15,8 +15,5 @@ pub record Inv (table₀ bodies₀ out₀ piece : List ℕ) (last : Bool) (g₀ 
   pub len : g.len ≤ length out
   pub left : turns k piece last (player g table bodies out) ≡ turns most_turns piece last (player g₀ table₀ bodies₀ out₀)
 
-abbrev pub invariant-loop-turns : goal.invariant-loop-turns
-invariant-loop-turns l = Inv l.initial.table l.initial.bodies l.initial.out l.piece l.last l.initial.g l.table l.bodies l.out l.g l.turns
-
-abbrev pub decreases-loop-turns : goal.decreases-loop-turns
-decreases-loop-turns l = l.turns
+abbrev pub invariant-loop : goal.invariant-loop
+invariant-loop l = Inv l.initial.table l.initial.bodies l.initial.out l.piece l.last l.initial.g l.table l.bodies l.out l.g (most_turns - l.counter)

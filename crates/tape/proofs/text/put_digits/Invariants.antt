@@ -7,6 +7,3 @@ use Rattle.tape.proofs.text.put_digits.Given as goal
 
 abbrev pub invariant-loop-left : goal.invariant-loop-left
 invariant-loop-left l = (l.left ≤ l.width) × (length l.out ≡ length l.initial.out) × (sets l.out l.at (digits_of l.base l.left l.rest) ≡ sets l.initial.out l.at (digits_of l.base l.width l.v))
-
-abbrev pub decreases-loop-left : goal.decreases-loop-left
-decreases-loop-left l = l.left

@@ -1,7 +1,0 @@
-use native.Mathlib.Nat.{sub-zero}
-use Rattle.by_reference.proofs.lists.set_up_from.Goals as goal
-
-pub returns : goal.returns
-returns c =
-    let whole = c.min.ensures in
-    rw (← whole) (rw sub-zero at c.set_up.ensures)

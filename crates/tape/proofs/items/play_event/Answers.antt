@@ -1,8 +1,0 @@
-use Rattle.tape.proofs.Playing.{played_bare}
-use Rattle.tape.proofs.items.play_event.Goals as goal
-
-pub notice_line-requires : goal.notice_line-requires
-notice_line-requires c = let l = c.item_line-end.ensures in (l.1, l.0.within)
-
-pub returns : goal.returns
-returns c = played_bare _ _ _ _ _ _ _ _ _ c.event-r.ensures c.item_line-end.ensures.0 c.notice_line.ensures
