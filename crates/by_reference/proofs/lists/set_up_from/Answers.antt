@@ -3,5 +3,5 @@ use Rattle.by_reference.proofs.lists.set_up_from.Goals as goal
 
 pub returns : goal.returns
 returns c =
-    let whole = c.min.ensures in
+    let whole = c.min-end.ensures in
     rw (← whole) (rw sub-zero at c.set_up.ensures)
