@@ -15,7 +15,7 @@ ghost use Rattle.octets.specs.Pages.{Within, fields_at, places_from, puts, place
 use crate::numbers::{short, word};
 use crate::words::word_at;
 
-// The lowest `width` bytes of `v`, lowest first, from place `at`. It promises any width, and `to_le_bytes` gives eight bytes.
+// The lowest `width` bytes of `v`, lowest first, from place `at`. By hand, and not `to_le_bytes`: any width is promised.
 pub fn put(buf: &mut [u8], at: usize, width: usize, v: u64)
     requires { at + width ≤ length buf.old }
     ensures { buf.new ≡ sets buf.old at (bytes_of width v) }
@@ -27,7 +27,7 @@ pub fn put(buf: &mut [u8], at: usize, width: usize, v: u64)
     }
 }
 
-// The number in the `width` bytes from place `at`. By hand, and not `from_le_bytes`: the must-fail edit `base_255` holds the base.
+// The number in the `width` bytes from place `at`. By hand, and not `from_le_bytes`: must-fail `base_255` holds the base.
 pub fn get(buf: &[u8], at: usize, width: usize) -> u64
     requires { (at + width ≤ length buf.now) × (width ≤ 8) }
     ensures { result ≡ number_of (part buf.now at width) }
