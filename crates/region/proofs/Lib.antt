@@ -1,4 +1,4 @@
 pub mod Words
+pub mod WrittenBack
 pub mod EveryRow
 pub mod AtDesk
-pub mod WrittenBack

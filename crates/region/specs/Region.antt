@@ -1,5 +1,5 @@
 -- 01: "there the table passes as its words' little-endian bytes"
-use Rattle.std.specs.Prelude.{◌≡◌, Bool, true, false, List, [], ◌∷◌, ℕ, suc, ◌+◌, ◌*◌, ◌/◌, ◌≤◌, length}
+use Rattle.std.specs.Prelude.{◌≡◌, true, List, [], ◌∷◌, ℕ, suc, ◌+◌, ◌*◌, ◌/◌, ◌≤◌, length}
 use Rattle.octets.specs.Words.{word_size, words_from, put_words}
 use Rattle.replies.specs.Answers.{Notice}
 use Rattle.desk.specs.Desk.{Told}

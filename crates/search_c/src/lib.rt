@@ -7,17 +7,14 @@ ghost use Rattle.table.specs.Table.{Legal, find_in};
 ghost use Rattle.region.specs.Region.{table_in};
 ghost use Rattle.search_c.specs.Slots.{slot_in};
 
-use record::SetId;
-use table::{Found, MAX_SETS};
+use record::{SetId, Slot};
+use table::MAX_SETS;
 
 // A number for C: the slot, or as many as there can be, which no slot is.
-fn slot_in(found: Found) -> usize
+fn slot_in(found: Option<Slot>) -> usize
     ensures { result ≡ slot_in found }
 {
-    match found {
-        Found::At(slot) => slot.0,
-        Found::Nothing => MAX_SETS,
-    }
+    found.map_or(MAX_SETS, |slot| slot.0)
 }
 
 #[unsafe(no_mangle)]
@@ -33,5 +30,5 @@ pub extern "C" fn search_bytes(bytes: &[u8], set: u16) -> usize
     requires { Legal (table_in bytes.now) }
     ensures { result ≡ slot_in (find_in (table_in bytes.now) set) }
 {
-    slot_in(region::find(bytes, SetId(set)))
+    slot_in(table::find(bytes, SetId(set)))
 }

@@ -1,11 +1,11 @@
 -- What a legal table gives: its size, and of each slot a legal row.
 use mathlib.Core.Path.{◌≡◌, refl, sym}
-use mathlib.Core.Bool.{Bool, true, false, ◌&&◌, and-true, and-false}
+use mathlib.Core.Bool.{Bool, true, false, ◌&&◌, and-false}
 use mathlib.Core.List.{List, [], ◌∷◌, map}
 use Prim.Native.Nat.{ℕ, zero, suc, ◌≤◌, ◌<◌}
 use native.Mathlib.Omega.{arith}
 use native.Mathlib.Nat.{not-suc-le-zero}
-use borrow.Author.Tests.{leb-true, eqb-true, le-leb, lt-leb, lt-ltb}
+use borrow.Author.Tests.{leb-true, eqb-true, lt-leb}
 use lib.Dec.{ltb, leb, eqb}
 use lib.ListN.{length, get_or, length-map, length-take, length-drop}
 use Rattle.octets.proofs.JoinedTests.{both}

@@ -3,7 +3,6 @@ ghost use Rattle.std.specs.Prelude.{◌≡◌};
 ghost use Rattle.record.specs.Parts.{id_of};
 ghost use Rattle.table.specs.Layout.{field_words, words_of, window_in, attributes_at, state_at, notes_at, record_of};
 
-use octets::casts::{bit_of, from_size, from_u32};
 use record::event::{bits_of, events_in};
 use record::parts::{config_of, recovered, spent, state_of};
 use record::windows::window_no;
@@ -30,50 +29,38 @@ pub const LISTED: usize = 24;
 fn field_words(r: Record) -> [u64; ROW]
     ensures { result ≡ field_words r }
 {
-    let s = r.state;
-    let w = s.window;
-    let enabled = r.state.config.enabled;
-    let events = r.notes.events;
-    let window = from_size(window_no(w));
-    let enev = bits_of(enabled);
-    let bits = bits_of(events);
-    let listed = bit_of(r.notes.listed);
-    let reads_typical = from_u32(r.attributes.reads_typical);
-    let writes_typical = from_u32(r.attributes.writes_typical);
-    let time_maximum = from_u32(r.attributes.time_maximum);
-    let minimum_high = from_u32(r.attributes.minimum_high);
-    let minimum_low = from_u32(r.attributes.minimum_low);
-    let reads = from_u32(r.state.spent.reads);
-    let writes = from_u32(r.state.spent.writes);
-    let time = from_u32(r.state.spent.time);
-    let n_time = from_u32(r.state.recovery.time);
-    let need = from_u32(r.state.recovery.need);
+    let attributes = r.attributes;
+    let state = r.state;
+    let config = state.config;
+    let enabled = bits_of(config.enabled);
+    let window = window_no(state.window) as u64;
+    let events = bits_of(r.notes.events);
     [
-        r.attributes.id.0 as u64,
-        r.attributes.group.0 as u64,
-        r.attributes.random_read_typical as u64,
-        r.attributes.optimal_write_size as u64,
-        r.attributes.total.low,
-        r.attributes.total.high,
-        r.attributes.unallocated.low,
-        r.attributes.unallocated.high,
-        reads_typical,
-        writes_typical,
-        time_maximum,
-        minimum_high,
-        minimum_low,
-        enev,
-        r.state.config.thresholds.reads,
-        r.state.config.thresholds.writes,
-        r.state.config.thresholds.time,
+        u64::from(attributes.id.0),
+        u64::from(attributes.group.0),
+        u64::from(attributes.random_read_typical),
+        u64::from(attributes.optimal_write_size),
+        attributes.total.low,
+        attributes.total.high,
+        attributes.unallocated.low,
+        attributes.unallocated.high,
+        u64::from(attributes.reads_typical),
+        u64::from(attributes.writes_typical),
+        u64::from(attributes.time_maximum),
+        u64::from(attributes.minimum_high),
+        u64::from(attributes.minimum_low),
+        enabled,
+        config.thresholds.reads,
+        config.thresholds.writes,
+        config.thresholds.time,
         window,
-        reads,
-        writes,
-        time,
-        n_time,
-        need,
-        bits,
-        listed,
+        u64::from(state.spent.reads),
+        u64::from(state.spent.writes),
+        u64::from(state.spent.time),
+        u64::from(state.recovery.time),
+        u64::from(state.recovery.need),
+        events,
+        u64::from(r.notes.listed),
     ]
 }
 

@@ -1,7 +1,4 @@
-use mathlib.Core.Path.{sym, ◌∙◌}
-use native.Mathlib.Omega.{arith}
 use Rattle.table.specs.Table.{legal_table}
-use Rattle.table.proofs.LegalTables.{sized_known}
 use Rattle.table.proofs.legal.Goals as goal
 
 pub returns-then-legal : goal.returns-then-legal

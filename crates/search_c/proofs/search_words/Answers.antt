@@ -1,4 +1,0 @@
-use Rattle.search_c.proofs.search_words.Goals as goal
-
-pub returns : goal.returns
-returns c = simp (c.slot_in.ensures, c.find.ensures)
