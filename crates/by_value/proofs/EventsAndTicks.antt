@@ -17,8 +17,9 @@ use Rattle.replies.specs.Answers.{Notice}
 use Rattle.replies.specs.declared.Reply.{Reply}
 use Rattle.replies.specs.Answers.{granted, refusing, done, beside_of}
 use Rattle.desk.specs.Desk.{settle}
-use Rattle.table.specs.declared.Entry.{Entry}
-use Rattle.table.specs.declared.Entry.TheVariants.{Bad, Unknown, Here}
+use Rattle.table.specs.declared.Absent.{Absent}
+use Rattle.table.specs.declared.Absent.TheVariants.{BadTable, NoSet}
+use Rattle.std.specs.Prelude.{Result, Ok, Err}
 use Rattle.table.specs.Layout.{words_of, record_of}
 use Rattle.table.specs.Table.{count, row_start, row, put, records_of, desk_at, Tells, legal_table, enter_in, written_rows, newly}
 use Rattle.table.proofs.LegalTables.{legal_known, length_records, is_bad, is_unknown, is_here}
@@ -29,7 +30,7 @@ use Rattle.steps.specs.Items.{Item, tick, item_of}
 use Rattle.steps.specs.Meanings.{event, ticked, meaning}
 use Rattle.by_value.specs.Ticks.{tick_one}
 use Rattle.steps.specs.Card.{refusal_all, refusal_of, concerns, touched, sets_after, effect_on, at_desk, after, answer}
-use Rattle.steps.specs.Words.{card_of, unchanged, step_words, Answered}
+use Rattle.steps.specs.Words.{card_of, unchanged, step_words, entry_no, Answered}
 use Rattle.octets.specs.Lists.{join}
 use Rattle.octets.proofs.Lists.{map_same}
 use Rattle.steps.proofs.ItemShapes.{touched_own}
@@ -55,19 +56,24 @@ module _ (ws : List ℕ) (i : Item) (before : List ℕ) where
   bad x e ex = turned_down bad_table x (step_bad ws i e) ex
 
 -- the slot that an item enters by
-pub entered : (ws : List ℕ) (id : ℕ) (e : Entry) (s : Slot) → e ≡ enter_in ws id → e ≡ Here s → row_start (s.0 + 1) ≤ length ws
+pub entered : (ws : List ℕ) (id : ℕ) (e : Result Slot Absent) (s : Slot) → e ≡ enter_in ws id → e ≡ Ok s → row_start (s.0 + 1) ≤ length ws
 entered ws id e s known q = let f = is_here ws id s (sym known ∙ q) in (here ws id s.0 f.0 f.1).room
 
-module _ (ws : List ℕ) (id : ℕ) (m : Media) (e : Entry) (known : e ≡ enter_in ws id) (x : Reply) where
-  pub event_bad : e ≡ Bad → x ≡ refusing bad_table → Answered ws (item_of id m) [] x ws []
+module _ (ws : List ℕ) (id : ℕ) (m : Media) (e : Result Slot Absent) (known : e ≡ enter_in ws id) (x : Reply) where
+  pub event_bad : e ≡ Err BadTable → x ≡ refusing bad_table → Answered ws (item_of id m) [] x ws []
   event_bad q ex = bad ws (item_of id m) [] x (is_bad ws id (sym known ∙ q)) ex
 
-  pub event_unknown : e ≡ Unknown → x ≡ refusing unknown_set → Answered ws (item_of id m) [] x ws []
+  pub event_unknown : e ≡ Err NoSet → x ≡ refusing unknown_set → Answered ws (item_of id m) [] x ws []
   event_unknown q ex =
       let f = is_unknown ws id (sym known ∙ q) in
       turned_down ws (item_of id m) [] unknown_set x (step_unknown ws (item_of id m) id (event (media_rule m)) (meaning_media id m) f.0 f.1 (λ z. omega arith)) ex
 
-  module _ (s : Slot) (q : e ≡ Here s) where
+  -- the two at once
+  pub event_absent : (a : Absent) → e ≡ Err a → x ≡ refusing (entry_no unknown_set a) → Answered ws (item_of id m) [] x ws []
+  event_absent BadTable q ex = event_bad q ex
+  event_absent NoSet q ex = event_unknown q ex
+
+  module _ (s : Slot) (q : e ≡ Ok s) where
     -- the record that was loaded, the record that the rule made of it, and the table that has it; then the desk is told
     pub event_here :
         (r y : Record) (us vs : List ℕ) (new : Bool) (n : Notice) (z : Reply) → r ≡ record_of (row ws s.0)

@@ -13,8 +13,9 @@ use Rattle.replies.specs.Numbers.{bad_table}
 use Rattle.replies.specs.Status.{line, first_of}
 use Rattle.replies.specs.Answers.{refusing}
 use Rattle.commands.proofs.Passed.{unknown_not_zero}
-use Rattle.table.specs.declared.Entry.{Entry}
-use Rattle.table.specs.declared.Entry.TheVariants.{Bad, Unknown, Here}
+use Rattle.table.specs.declared.Absent.{Absent}
+use Rattle.table.specs.declared.Absent.TheVariants.{BadTable, NoSet}
+use Rattle.std.specs.Prelude.{Result, Ok, Err}
 use Rattle.table.specs.Layout.{record_of}
 use Rattle.table.specs.Table.{row, legal_table, enter_in}
 use Rattle.table.proofs.LegalTables.{is_bad, is_unknown, is_here}
@@ -25,7 +26,7 @@ use Rattle.commands.specs.Shapes.{named_by}
 use Rattle.commands.specs.StatusTable.{early_lines, unknown_number}
 use Rattle.steps.specs.Commanded.{named}
 use Rattle.steps.specs.Meanings.{meaning}
-use Rattle.steps.specs.Words.{Answered}
+use Rattle.steps.specs.Words.{entry_no, Answered}
 use Rattle.by_value.specs.OnSet.{status_on, OnSet}
 use Rattle.steps.proofs.StepOnWords.{step_bad, step_unknown, step_late, step_done}
 use Rattle.replies.proofs.Answering.{refused_reply}
@@ -36,19 +37,26 @@ answered_bad ws i before x e ex =
     let d = step_bad ws i e in
     record { table = rw d; reply = rw (d, ex) (refused_reply bad_table before); notice = rw (d, ex) }
 
-module _ (ws : List ℕ) (k : Kind) (c : Command) (given before : List ℕ) (e : Entry) (known : e ≡ enter_in ws (named_by k c))
+module _ (ws : List ℕ) (k : Kind) (c : Command) (given before : List ℕ) (e : Result Slot Absent) (known : e ≡ enter_in ws (named_by k c))
     (i : Item) (m : meaning i ≡ The (named_by k c) (named k c given (length before))) where
-  pub named_bad : (x : Reply) → e ≡ Bad → x ≡ refusing bad_table → Answered ws i before x ws before
+  pub named_bad : (x : Reply) → e ≡ Err BadTable → x ≡ refusing bad_table → Answered ws i before x ws before
   named_bad x q ex = answered_bad ws i before x (is_bad ws (named_by k c) (sym known ∙ q)) ex
 
   pub named_unknown :
-      (x : Reply) (s : ℕ) → e ≡ Unknown → s ≡ first_of (early_lines c ++ line true unknown_number ∷ []) → x ≡ refusing s → Answered ws i before x ws before
+      (x : Reply) (s : ℕ) → e ≡ Err NoSet → s ≡ first_of (early_lines c ++ line true unknown_number ∷ []) → x ≡ refusing s → Answered ws i before x ws before
   named_unknown x s q es ex =
       let f = is_unknown ws (named_by k c) (sym known ∙ q) in
       let d = step_unknown ws i (named_by k c) (named k c given (length before)) m f.0 f.1 (unknown_not_zero c) in
       record { table = rw d; reply = rw (d, ex, es) (refused_reply _ before); notice = rw (d, ex) }
 
-  module _ (slot : Slot) (q : e ≡ Here slot) (x : Reply) (words buffer : List ℕ) (o : OnSet ws slot.0 k c given before x words buffer) where
+  -- the two at once
+  pub named_absent :
+      (x : Reply) (s : ℕ) (a : Absent) → e ≡ Err a → s ≡ first_of (early_lines c ++ line true unknown_number ∷ []) → x ≡ refusing (entry_no s a)
+      → Answered ws i before x ws before
+  named_absent x s BadTable q es ex = named_bad x q ex
+  named_absent x s NoSet q es ex = named_unknown x s q es ex
+
+  module _ (slot : Slot) (q : e ≡ Ok slot) (x : Reply) (words buffer : List ℕ) (o : OnSet ws slot.0 k c given before x words buffer) where
     rec : Record
     rec = record_of (row ws slot.0)
 

@@ -11,8 +11,8 @@ use Rattle.record.specs.Event.{newly_listed}
 use Rattle.replies.specs.Answers.{Notice}
 use Rattle.desk.specs.Desk.{settle}
 use Rattle.desk.specs.Words.{desk_legal}
-use Rattle.table.specs.declared.Entry.{Entry}
-use Rattle.table.specs.declared.Entry.TheVariants.{Here}
+use Rattle.table.specs.declared.Absent.{Absent}
+use Rattle.std.specs.Prelude.{Result, Ok}
 use Rattle.table.specs.Layout.{words_of, record_of}
 use Rattle.table.specs.Table.{count, row, put, records_of, desk_part, desk_at, DeskThere, Tells, enter_in, written_rows, newly}
 use Rattle.table.proofs.Records.{length_words}
@@ -25,7 +25,7 @@ use Rattle.table.proofs.Written.{length_rows_written}
 -- ---- the desk is there
 
 -- of an item that names a set, which was found
-pub entered_desk : (ws : List ℕ) (id : ℕ) (e : Entry) (s : Slot) → e ≡ enter_in ws id → e ≡ Here s → DeskThere ws
+pub entered_desk : (ws : List ℕ) (id : ℕ) (e : Result Slot Absent) (s : Slot) → e ≡ enter_in ws id → e ≡ Ok s → DeskThere ws
 entered_desk ws id e s known q = desk_there ws (legal_known ws (is_here ws id s (sym known ∙ q)).0)
 
 -- with its record stored

@@ -15,8 +15,9 @@ use Rattle.record.specs.Parts.{id_of}
 use Rattle.record.specs.Event.{settled, newly_listed}
 use Rattle.desk.specs.Desk.{Told, settle}
 use Rattle.replies.specs.Numbers.{bad_table}
-use Rattle.table.specs.declared.Found.{Found}
-use Rattle.table.specs.declared.Found.TheVariants.{At, Nothing}
+use Rattle.std.specs.Prelude as prelude
+use Rattle.std.specs.Prelude.{None, Some}
+use Rattle.record.specs.declared.Slot.{Slot}
 use Rattle.table.specs.Layout.{words_of, record_of}
 use Rattle.table.specs.Table.{count, desk_at, with_desk, row_start, row, put, rows_from, records_of, legal_table, find_from, find_in, written}
 use Rattle.table.proofs.LegalTables.{legal_known, length_records, sets_known}
@@ -40,18 +41,18 @@ pub record Hit (id slot j : ℕ) (rs : List Record) : Type 0 where
   pub there : nth k rs ≡ some r
   pub same : id_of r ≡ id
 
-abbrev slot_at : ℕ → Found
-slot_at k = At (record { 0 = k })
+abbrev slot_at : ℕ → prelude.Option Slot
+slot_at k = Some (record { 0 = k })
 
-slot_no : Found → ℕ
-slot_no (At s) = s.0
-slot_no Nothing = 0
+slot_no : prelude.Option Slot → ℕ
+slot_no (Some s) = s.0
+slot_no None = 0
 
 same_slot : (i j : ℕ) → slot_at i ≡ slot_at j → i ≡ j
 unfolding slot_no
 same_slot i j e = ap slot_no e
 
-not_slot : (j : ℕ) → Nothing ≡ slot_at j → ⊥
+not_slot : (j : ℕ) → None ≡ slot_at j → ⊥
 not_slot j e = let z : ◌≡◌ {A = ℕ} 0 1 = cc in omega arith
 
 pub hit : (id slot j : ℕ) (rs : List Record) → find_from id slot rs ≡ slot_at j → Hit id slot j rs
@@ -64,10 +65,10 @@ hit id slot j (r ∷ rs) e =
     record { k = suc h.k; at = omega (arith, h.at); below = omega (arith, h.below); r = h.r; there = h.there; same = h.same })
     (bool_cases (eqb (id_of r) id))
 
-slot_not : (j : ℕ) → slot_at j ≡ Nothing → ⊥
+slot_not : (j : ℕ) → slot_at j ≡ None → ⊥
 slot_not j e = not_slot j (sym e)
 
-pub miss : (id slot : ℕ) (rs : List Record) → find_from id slot rs ≡ Nothing → first (has id) rs ≡ none
+pub miss : (id slot : ℕ) (rs : List Record) → find_from id slot rs ≡ None → first (has id) rs ≡ none
 miss id slot [] e = refl
 miss id slot (r ∷ rs) e =
     ⊎_elim
@@ -93,7 +94,7 @@ pub record Here (ws : List ℕ) (id k : ℕ) : Type 0 where
   pub same : id_of (record_of (row ws k)) ≡ id
   pub look : first (has id) (records_of ws) ≡ some (record_of (row ws k))
 
-pub here : (ws : List ℕ) (id k : ℕ) → legal_table ws ≡ true → find_in ws id ≡ At (record { 0 = k }) → Here ws id k
+pub here : (ws : List ℕ) (id k : ℕ) → legal_table ws ≡ true → find_in ws id ≡ Some (record { 0 = k }) → Here ws id k
 unfolding find_in
 here ws id k e f =
     let l = legal_known ws e in
@@ -140,11 +141,11 @@ module _ (ws : List ℕ) (i : Item) (id : ℕ) (o : One) (m : meaning i ≡ The 
   status_is x f = rw (m, f)
 
   -- no set has its identifier
-  pub step_unknown : find_in ws id ≡ Nothing → (unknown_at o ≡ 0 → ⊥) → step_words ws i ≡ unchanged ws (unknown_at o)
+  pub step_unknown : find_in ws id ≡ None → (unknown_at o ≡ 0 → ⊥) → step_words ws i ≡ unchanged ws (unknown_at o)
   unfolding find_in
   step_unknown f n = step_refused ws i (unknown_at o) e (status_is none (miss id 0 (records_of ws) f)) n
 
-  module _ (k : ℕ) (f : find_in ws id ≡ At (record { 0 = k })) where
+  module _ (k : ℕ) (f : find_in ws id ≡ Some (record { 0 = k })) where
     it : Here ws id k
     it = here ws id k e f
 

@@ -1,12 +1,12 @@
 -- The step on the lent words.
 use Rattle.std.specs.Prelude.{◌≡◌, List, ℕ, ◌≤◌, length, if◌then◌else◌}
-use Rattle.replies.specs.Numbers.{success, bad_table}
+use Rattle.replies.specs.Numbers.{bad_table}
 use Rattle.replies.specs.declared.Reply.{Reply}
 use Rattle.replies.specs.Answers.{Notice}
 use Rattle.std.specs.Prelude.{None}
 use Rattle.replies.specs.Answers.{Answer, refused, told_no, to_no, Replied}
-use Rattle.table.specs.declared.Entry.{Entry}
-use Rattle.table.specs.declared.Entry.TheVariants.{Bad, Unknown, Here}
+use Rattle.table.specs.declared.Absent.{Absent}
+use Rattle.table.specs.declared.Absent.TheVariants.{BadTable, NoSet}
 use Rattle.table.specs.Table.{legal_table, written}
 pub use Rattle.table.specs.Table.{card_of}
 use Rattle.steps.specs.Items.{Item}
@@ -31,10 +31,9 @@ step_words ws i =
 
 -- "table not legal" and "set not in the table", as the way in to an item tells them: the number for each case, where the item's own is
 -- that of a set which is not there
-abbrev pub entry_no : ℕ → Entry → ℕ
-entry_no unknown Bad = bad_table
-entry_no unknown Unknown = unknown
-entry_no unknown (Here slot) = success
+abbrev pub entry_no : ℕ → Absent → ℕ
+entry_no unknown BadTable = bad_table
+entry_no unknown NoSet = unknown
 
 -- What every item promises: the words that it leaves, its reply (status, dword 0, length of data, and the notice beside them, whose own
 -- dword 0 is `notice_no` of it), and every byte of the answer buffer. A media event has no buffer: [] before and after.
