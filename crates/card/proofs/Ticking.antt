@@ -7,7 +7,7 @@ use native.Mathlib.Omega.{arith}
 use lib.ListN.{length}
 use Rattle.record.specs.declared.Record.{Record}
 use Rattle.table.specs.Layout.{words_of, record_of}
-use Rattle.table.specs.Table.{count, row, records_of, legal_row, Legal, put, written_rows, newly}
+use Rattle.table.specs.Table.{count, row, records_of, legal_row, Legal, written_rows, newly}
 use Rattle.table.proofs.Records.{length_words}
 use Rattle.table.proofs.Slots.{length_put, row_other}
 use Rattle.table.proofs.LegalTables.{slot_legal}

@@ -30,9 +30,7 @@ use record::event::newly_listed;
 use record::{Record, Slot};
 use replies::numbers::BAD_TABLE;
 use replies::{Reply, awaiting, beside, done, give, refuse};
-use table::{
-    enter, legal, lift, load, on_at, queue, settle, store, store_moved, turn, waiting_at,
-};
+use table::{enter, legal, lift, load, on_at, queue, settle, store, store_moved, turn, waiting_at};
 
 // `early` is the number of the first row before the look-up that holds, or 0: it is asked once.
 
@@ -180,7 +178,13 @@ fn answer_aggregate<C: Cell>(
 }
 
 // Identify 04h: the whole page, written straight into the answer.
-fn answer_identify<C: Cell>(table: &[C], c: Command, early: u16, given: usize, answer: &mut [u8]) -> Reply
+fn answer_identify<C: Cell>(
+    table: &[C],
+    c: Command,
+    early: u16,
+    given: usize,
+    answer: &mut [u8],
+) -> Reply
     requires { (Kind.Identify ≡ kind_of c) × (early ≡ first_of (early_lines c)) }
     ensures { (i : Item) → meaning i ≡ Nobody (viewed Kind.Identify c given (length answer.old)) → Answered (C.words table.now) i answer.old result (C.words table.now) answer.new }
 {

@@ -37,7 +37,11 @@ fn store_effect<C: Cell>(table: &mut [C], slot: Slot, r: Record, e: Effect) -> b
 
 // A slot's record after a rule. Each rule gets a copy of this that loads and stores by itself: a record that is made in one place and
 // stored in another is copied on the way.
-fn rule_at<C: Cell, F: FnOnce(Attributes, State) -> Effect>(table: &mut [C], slot: Slot, rule: F) -> bool
+fn rule_at<C: Cell, F: FnOnce(Attributes, State) -> Effect>(
+    table: &mut [C],
+    slot: Slot,
+    rule: F,
+) -> bool
     requires there { LegalAt (C.words table.old) slot.0 }
     requires any { F.IsAlwaysCallable rule }
     requires stays { (a : _) (s : _) (e : _) → F.post rule a s e → e.state.config ≡ s.config }

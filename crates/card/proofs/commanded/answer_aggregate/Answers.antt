@@ -1,21 +1,13 @@
 use mathlib.Core.Path.{refl, sym, ◌∙◌}
-use native.Mathlib.Omega.{arith}
 use lib.ListN.{length}
 use Rattle.table.proofs.LegalTables.{legal_known, desk_there}
 use Rattle.commands.specs.declared.Kind.TheVariants.{ReadAggregate}
-use Rattle.by_value.proofs.Passed.{view_fine}
 use Rattle.by_value.proofs.NamedCommands.{answered_bad}
 use Rattle.by_value.proofs.Viewed.{unqueued, aggregate_read}
 use Rattle.card.proofs.commanded.answer_aggregate.Goals as goal
 
 pub aggregate_of-page-requires : goal.aggregate_of-page-requires
 aggregate_of-page-requires g c = legal_known _ (sym c.legal.ensures ∙ c.if-legal.true)
-
-pub hand_out-reply-requires : goal.hand_out-reply-requires
-hand_out-reply-requires g c =
-    λ z.
-    let f = view_fine ReadAggregate c.args.c c.args.given (length c.args.answer.now) _ c.requires.0 c.view_status-status.ensures z in
-    (omega (arith, f.start refl, c.offset_of-from.ensures), omega (arith, f.outward, c.needs_out-n.ensures))
 
 pub lift_if-requires : goal.lift_if-requires
 lift_if-requires g c = desk_there _ (legal_known _ (sym c.legal.ensures ∙ c.if-legal.true))

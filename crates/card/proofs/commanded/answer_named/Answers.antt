@@ -1,9 +1,8 @@
 use mathlib.Core.Path.{ap, ◌∙◌}
 use Rattle.replies.specs.Answers.{refusing}
-use Rattle.steps.specs.Words.{entry_no}
 use Rattle.by_value.proofs.Told.{entered_desk}
-use Rattle.by_value.proofs.NamedCommands.{named_here}
-use Rattle.card.proofs.InPlace.{entered_at, named_absent}
+use Rattle.by_value.proofs.NamedCommands.{named_absent, named_here}
+use Rattle.card.proofs.InPlace.{entered_at}
 use Rattle.card.proofs.commanded.answer_named.Goals as goal
 
 pub answer_set-requires : goal.answer_set-requires
@@ -13,7 +12,7 @@ answer_set-requires g c =
 pub returns-in-Err-clause-answered : goal.returns-in-Err-clause-answered
 returns-in-Err-clause-answered g c =
     let s = c.args in
-    λ i m. named_absent (g.C.Cell.words s.table.now) s.k s.c s.given.now s.answer.now _ _ _ _ (rw c.named_by.ensures at c.enter.ensures) i m c.in-Err.is c.unknown_status.ensures (c.refuse.ensures ∙ ap refusing c.entry_no.ensures)
+    λ i m. named_absent (g.C.Cell.words s.table.now) s.k s.c s.given.now s.answer.now _ (rw c.named_by.ensures at c.enter.ensures) i m _ _ _ c.in-Err.is c.unknown_status.ensures (c.refuse.ensures ∙ ap refusing c.entry_no.ensures)
 
 pub returns-in-Ok-clause-answered : goal.returns-in-Ok-clause-answered
 returns-in-Ok-clause-answered g c =

@@ -1,6 +1,6 @@
 use mathlib.Core.Path.{refl}
 use Rattle.by_value.proofs.Told.{stored_desk}
-use Rattle.by_value.proofs.OnOneSet.{fine_on, on_refused, on_done}
+use Rattle.by_value.proofs.OnOneSet.{fine_on, on_done}
 use Rattle.card.proofs.InPlace.{listed_by}
 use Rattle.card.proofs.commanded.answer_set.Goals as goal
 
@@ -21,6 +21,3 @@ returns-then-status-eq0-clause-on g c =
     let s = c.change-new.ensures.stored in
     on_done (g.C.Cell.words a.table.now) a.slot.0 a.k a.c a.given.now a.answer.now _ _ _ c.load-r.ensures c.status_on-status.ensures _ _ _ _ _ _ _ c.if-status-eq0.true refl s.table c.hand_by-reply.ensures
     (listed_by _ _ _ _ _ _ c.load-r.ensures s) c.settle.ensures.desk c.beside.ensures
-
-pub returns-else-status-eq0-clause-on : goal.returns-else-status-eq0-clause-on
-returns-else-status-eq0-clause-on g c = on_refused _ _ _ _ _ _ _ _ _ c.load-r.ensures c.status_on-status.ensures c.if-status-eq0.false c.refuse.ensures

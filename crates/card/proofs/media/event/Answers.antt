@@ -1,8 +1,8 @@
 use mathlib.Core.Path.{refl, ap, ◌∙◌}
 use Rattle.replies.specs.Answers.{refusing}
 use Rattle.by_value.proofs.Told.{entered_desk, stored_desk}
-use Rattle.by_value.proofs.EventsAndTicks.{event_here}
-use Rattle.card.proofs.InPlace.{entered_at, event_absent}
+use Rattle.by_value.proofs.EventsAndTicks.{event_absent, event_here}
+use Rattle.card.proofs.InPlace.{entered_at}
 use Rattle.card.proofs.media.event.Goals as goal
 
 pub event_at-new-requires : goal.event_at-new-requires
@@ -13,7 +13,7 @@ settle-requires g c = stored_desk _ _ _ _ c.event_at-new.ensures.stored.table (e
 
 pub returns-in-Err-clause-answered : goal.returns-in-Err-clause-answered
 returns-in-Err-clause-answered g c =
-    event_absent (g.C.Cell.words c.args.table.now) c.args.id.0 c.args.m _ _ _ c.enter.ensures c.in-Err.is (c.refuse.ensures ∙ ap refusing c.entry_no.ensures)
+    event_absent (g.C.Cell.words c.args.table.now) c.args.id.0 c.args.m _ c.enter.ensures _ _ c.in-Err.is (c.refuse.ensures ∙ ap refusing c.entry_no.ensures)
 
 pub returns-in-Ok-clause-answered : goal.returns-in-Ok-clause-answered
 returns-in-Ok-clause-answered g c =

@@ -1,7 +1,7 @@
 use Rattle.std.proofs.Common.{rules, of_calls}
 use Rattle.rules.specs.Rules.{read_event, write_event, excursion_event}
 use Rattle.rules.proofs.Staying.{read_stays, write_stays, excursion_stays}
-use Rattle.card.proofs.InPlace.{rule_stays, rule_stores}
+use Rattle.card.proofs.InPlace.{rule_stays}
 use Rattle.card.proofs.media.event_at.Goals as goal
 
 pub rule_at-requires-clause-stays : goal.rule_at-requires-clause-stays
@@ -12,12 +12,3 @@ rule_at-requires-in-Writes-clause-stays g c = let k = c.in-Writes.k in rule_stay
 
 pub rule_at-requires-in-Excursion-clause-stays : goal.rule_at-requires-in-Excursion-clause-stays
 rule_at-requires-in-Excursion-clause-stays g c = rule_stays _ excursion_event (λ a s e p. search (rules, of_calls)) excursion_stays
-
-pub returns-in-Reads-clause-stored : goal.returns-in-Reads-clause-stored
-returns-in-Reads-clause-stored g c = rw c.in-Reads.is (rule_stores _ (read_event c.in-Reads.k) (λ a s e p. search (rules, of_calls)) _ _ _ _ c.rule_at.ensures.stored)
-
-pub returns-in-Writes-clause-stored : goal.returns-in-Writes-clause-stored
-returns-in-Writes-clause-stored g c = rw c.in-Writes.is (rule_stores _ (write_event c.in-Writes.k) (λ a s e p. search (rules, of_calls)) _ _ _ _ c.rule_at-in-Writes.ensures.stored)
-
-pub returns-in-Excursion-clause-stored : goal.returns-in-Excursion-clause-stored
-returns-in-Excursion-clause-stored g c = rw c.in-Excursion.is (rule_stores _ excursion_event (λ a s e p. search (rules, of_calls)) _ _ _ _ c.rule_at-in-Excursion.ensures.stored)

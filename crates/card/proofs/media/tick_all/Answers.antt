@@ -1,6 +1,6 @@
 use mathlib.Core.Path.{refl, ◌∙◌}
 use Rattle.by_value.specs.Ticks.{tick_one}
-use Rattle.card.proofs.Ticking.{ticking_start, ticking_legal, ticking_turn, ticking_end}
+use Rattle.card.proofs.Ticking.{ticking_start, ticking_legal, ticking_turn}
 use Rattle.card.proofs.media.tick_all.Goals as goal
 
 pub loop-i-init : goal.loop-i-init
@@ -16,11 +16,3 @@ loop-i-preserved g c =
       ticking_turn (tick_one c.args.t) (g.C.Cell.words c.args.table.now) c.args.n c.requires.0 c.requires.1 (g.C.Cell.words l.table) l.i l.new l.invariant.0 c.loop-i-test.true _ _ c.tick_at-new.ensures.stored,
       c.tick_at-new.ensures.rest ∙ l.invariant.1,
     )
-
-pub returns-clause-words : goal.returns-clause-words
-returns-clause-words g c =
-    let l = c.loop-i in (ticking_end (tick_one c.args.t) (g.C.Cell.words c.args.table.now) c.args.n c.requires.0 c.requires.1 (g.C.Cell.words l.table) l.i l.new l.invariant.0 c.loop-i-test.false).0
-
-pub returns-clause-listed : goal.returns-clause-listed
-returns-clause-listed g c =
-    let l = c.loop-i in (ticking_end (tick_one c.args.t) (g.C.Cell.words c.args.table.now) c.args.n c.requires.0 c.requires.1 (g.C.Cell.words l.table) l.i l.new l.invariant.0 c.loop-i-test.false).1

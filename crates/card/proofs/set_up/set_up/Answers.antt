@@ -1,7 +1,4 @@
-use mathlib.Core.Path.{ap, ◌∙◌}
 use native.Mathlib.Omega.{arith}
-use lib.ListN.{length}
-use Rattle.table.proofs.Written.{length_rows_written}
 use Rattle.steps.proofs.NewSets.{well}
 use Rattle.by_value.proofs.Bodies.{set_up_refused, set_up_done, headed_length, headed_rows}
 use Rattle.card.proofs.set_up.set_up.Goals as goal

@@ -1,15 +1,14 @@
-use mathlib.Core.Path.{◌≡◌, refl, sym, ap, ◌∙◌}
+use mathlib.Core.Path.{◌≡◌, refl, ap, ◌∙◌}
 use mathlib.Core.List.{List}
 use Prim.Native.Nat.{ℕ, ◌+◌, ◌*◌}
 use native.Mathlib.Omega.{arith}
-use borrow.Author.Rules.{rules}
 use lib.ListN.{length}
 use lib.Seq.{length-sets}
 use Rattle.pages.specs.Bodies.{body_size}
 use Rattle.record.specs.declared.Record.{Record}
 use Rattle.table.specs.Layout.{words_of}
 use Rattle.table.specs.Table.{row_start, put}
-use Rattle.by_value.proofs.Bodies.{rows_left, rows_start, rows_end, rows_again}
+use Rattle.by_value.proofs.Bodies.{rows_start, rows_again}
 use Rattle.card.proofs.set_up.write_rows.Goals as goal
 
 put_long : (ws vs : List ℕ) (k : ℕ) (r : Record) → vs ≡ put ws k (words_of r) → length vs ≡ length ws
@@ -26,8 +25,3 @@ loop-i-preserved g c =
       c.store.ensures.rest ∙ l.invariant.1,
       rw next at (rows_again _ _ _ l.i _ _ l.invariant.2 c.loop-i-test.true _ _ _ c.attributes_in-a.ensures c.new_record.ensures c.store.ensures.words),
     )
-
-pub returns-clause-words : goal.returns-clause-words
-returns-clause-words g c =
-    let l = c.loop-i in
-    sym (rows_end (g.C.Cell.words l.table) _ _ l.i _ c.loop-i-test.false) ∙ l.invariant.2
