@@ -1,35 +1,104 @@
 // What a command does and answers, from its 64 bytes.
-ghost use Rattle.std.specs.Prelude.{◌≡◌, true, false, List, ℕ, ◌+◌, ◌≤◌, length, if◌then◌else◌};
+ghost use Rattle.std.specs.Prelude.{◌≡◌, true, false, List, ℕ, ◌≤◌, length, if◌then◌else◌};
 ghost use Rattle.replies.specs.Status.{first_of};
+ghost use Rattle.replies.specs.Answers.{told_no, to_no};
+ghost use Rattle.pages.specs.Features.{feature_size};
 ghost use Rattle.desk.specs.Desk.{lifted};
-ghost use Rattle.table.specs.Table.{row_start, desk_at, with_desk, DeskThere};
+ghost use Rattle.table.specs.Layout.{record_of};
+ghost use Rattle.table.specs.Table.{row, desk_at, with_desk, DeskThere};
 ghost use Rattle.commands.specs.declared.Kind.{Kind};
-ghost use Rattle.commands.specs.Shapes.{kind_of, is_named, named_by};
+ghost use Rattle.commands.specs.Shapes.{kind_of, is_named, named_by, needs_in};
 ghost use Rattle.commands.specs.StatusTable.{early_lines};
 ghost use Rattle.steps.specs.Items.{Item, Nobody, The};
 ghost use Rattle.steps.specs.Commanded.{named, viewed};
 ghost use Rattle.steps.specs.Meanings.{meaning};
 ghost use Rattle.steps.specs.Words.{Answered, Handed};
-ghost use Rattle.by_value.specs.OnSet.{OnSet};
+ghost use Rattle.by_value.specs.OnSet.{after_on, OnSet};
+ghost use Rattle.card.specs.InPlace.{LegalAt, Stores};
 
 use crate::views::{aggregate_of, set_list_onto};
-use by_value::commanded::{after_command, hand_by, notices_no, status_on};
+use by_value::commanded::{
+    after_clearing, after_config, after_window, hand_by, notices_no, status_on,
+};
 use by_value::entry::entry_no;
 use commands::shapes::{is_named, kind_of, named_by, needs_out};
 use commands::status_table::{early_status, request_status, unknown_status, view_status};
 use commands::{Command, Kind, asked_by, command_in, identifier_of, offset_of, retains, turns_on};
+use octets::cells::Cell;
 use pages::identify::IDENTIFY_SIZE;
-use record::Slot;
 use record::event::newly_listed;
+use record::{Record, Slot};
 use replies::numbers::BAD_TABLE;
-use replies::{Notice, Reply, awaiting, beside, done, give, refuse, to_no, told_no};
-use table::{Entry, enter, legal, lift, load, on_at, queue, settle, store, turn, waiting_at};
+use replies::{Reply, awaiting, beside, done, give, refuse};
+use table::{enter, legal, lift, load, on_at, queue, settle, store, store_moved, turn, waiting_at};
 
 // `early` is the number of the first row before the look-up that holds, or 0: it is asked once.
 
+// Each of these answers whether the set was listed by it.
+
+// A read of page 0Ah: with Retain nothing is stored.
+fn read_at<C: Cell>(table: &mut [C], slot: Slot, c: Command, r: Record) -> bool
+    requires there { LegalAt (C.words table.old) slot.0 }
+    requires own { r ≡ record_of (row (C.words table.old) slot.0) }
+    ensures stored { (given : List ℕ) → Stores (C.words table.old) slot.0 (after_on Kind.ReadLatency c given r) (C.words table.new) result }
+    ensures rest { C.rest table.new ≡ C.rest table.old }
+{
+    if retains(c) {
+        return false;
+    }
+    store_moved(table, slot, after_clearing(r), true);
+    false
+}
+
+fn config_at<C: Cell>(table: &mut [C], slot: Slot, c: Command, given: &[u8], r: Record) -> bool
+    requires there { LegalAt (C.words table.old) slot.0 }
+    requires own { r ≡ record_of (row (C.words table.old) slot.0) }
+    requires given { feature_size ≤ length given.now }
+    ensures stored { Stores (C.words table.old) slot.0 (after_on Kind.SetConfig c given.now r) (C.words table.new) result }
+    ensures rest { C.rest table.new ≡ C.rest table.old }
+{
+    let x = after_config(r, c, given);
+    store(table, slot, x);
+    newly_listed(r, x)
+}
+
+fn window_at<C: Cell>(table: &mut [C], slot: Slot, c: Command, r: Record) -> bool
+    requires there { LegalAt (C.words table.old) slot.0 }
+    requires own { r ≡ record_of (row (C.words table.old) slot.0) }
+    ensures stored { (given : List ℕ) → Stores (C.words table.old) slot.0 (after_on Kind.SetWindow c given r) (C.words table.new) result }
+    ensures rest { C.rest table.new ≡ C.rest table.old }
+{
+    let x = after_window(r, c);
+    store_moved(table, slot, x, true);
+    newly_listed(r, x)
+}
+
+// The record of a slot after a command that is carried out. Each kind stores by itself, and only what it can change.
+fn change<C: Cell>(
+    table: &mut [C],
+    slot: Slot,
+    k: Kind,
+    c: Command,
+    given: &[u8],
+    r: Record,
+) -> bool
+    requires there { LegalAt (C.words table.old) slot.0 }
+    requires own { r ≡ record_of (row (C.words table.old) slot.0) }
+    requires given { needs_in k ≤ length given.now }
+    ensures stored { Stores (C.words table.old) slot.0 (after_on k c given.now r) (C.words table.new) result }
+    ensures rest { C.rest table.new ≡ C.rest table.old }
+{
+    match k {
+        Kind::SetConfig => config_at(table, slot, c, given, r),
+        Kind::SetWindow => window_at(table, slot, c, r),
+        Kind::ReadLatency => read_at(table, slot, c, r),
+        _ => false,
+    }
+}
+
 // A command that names a set, which was found.
-fn answer_set(
-    table: &mut [u64],
+fn answer_set<C: Cell>(
+    table: &mut [C],
     slot: Slot,
     k: Kind,
     c: Command,
@@ -37,24 +106,24 @@ fn answer_set(
     given: &[u8],
     answer: &mut [u8],
 ) -> Reply
-    requires { (k ≡ kind_of c) × (is_named k ≡ true) × (early ≡ first_of (early_lines c)) × (row_start (slot.0 + 1) ≤ length table.old) × DeskThere table.old }
-    ensures { OnSet table.old slot.0 k c given.now answer.old result table.new answer.new }
+    requires { (k ≡ kind_of c) × (is_named k ≡ true) × (early ≡ first_of (early_lines c)) × LegalAt (C.words table.old) slot.0 × DeskThere (C.words table.old) }
+    ensures on { OnSet (C.words table.old) slot.0 k c given.now answer.old result (C.words table.new) answer.new }
+    ensures rest { C.rest table.new ≡ C.rest table.old }
 {
     let r = load(table, slot);
     let status = status_on(early, k, c, given.len(), answer.len(), r);
     if status == 0 {
-        let x = after_command(r, k, c, given);
-        store(table, slot, x);
+        let new = change(table, slot, k, c, given, r);
         let reply = hand_by(k, c, r, answer);
-        beside(reply, settle(table, newly_listed(r, x)))
+        beside(reply, settle(table, new))
     } else {
         refuse(status)
     }
 }
 
 // A command that names a set.
-fn answer_named(
-    table: &mut [u64],
+fn answer_named<C: Cell>(
+    table: &mut [C],
     k: Kind,
     c: Command,
     early: u16,
@@ -62,21 +131,21 @@ fn answer_named(
     answer: &mut [u8],
 ) -> Reply
     requires { (k ≡ kind_of c) × (is_named k ≡ true) × (early ≡ first_of (early_lines c)) }
-    ensures { (i : Item) → meaning i ≡ The (named_by k c) (named k c given.now (length answer.old)) → Answered table.old i answer.old result table.new answer.new }
+    ensures answered { (i : Item) → meaning i ≡ The (named_by k c) (named k c given.now (length answer.old)) → Answered (C.words table.old) i answer.old result (C.words table.new) answer.new }
+    ensures rest { C.rest table.new ≡ C.rest table.old }
 {
-    let e = enter(table, named_by(k, c));
-    match e {
-        Entry::Bad => refuse(entry_no(unknown_status(early, c), e)),
-        Entry::Unknown => refuse(entry_no(unknown_status(early, c), e)),
-        Entry::Here(slot) => answer_set(table, slot, k, c, early, given, answer),
+    match enter(table, named_by(k, c)) {
+        Err(absent) => refuse(entry_no(unknown_status(early, c), absent)),
+        Ok(slot) => answer_set(table, slot, k, c, early, given, answer),
     }
 }
 
 // A command that names no set: where it can change the desk, `table` is lent to be changed.
 
-fn lift_if(table: &mut [u64], lifts: bool)
-    requires { DeskThere table.old }
-    ensures { table.new ≡ (if lifts then with_desk table.old (lifted (desk_at table.old)) else table.old) }
+fn lift_if<C: Cell>(table: &mut [C], lifts: bool)
+    requires { DeskThere (C.words table.old) }
+    ensures lifted { C.words table.new ≡ (if lifts then with_desk (C.words table.old) (lifted (desk_at (C.words table.old))) else C.words table.old) }
+    ensures rest { C.rest table.new ≡ C.rest table.old }
 {
     if lifts {
         lift(table);
@@ -84,15 +153,16 @@ fn lift_if(table: &mut [u64], lifts: bool)
 }
 
 // Page 0Bh: with Retain 0 it lifts the mask and drops the flag. That sends no notice.
-fn answer_aggregate(
-    table: &mut [u64],
+fn answer_aggregate<C: Cell>(
+    table: &mut [C],
     c: Command,
     early: u16,
     given: usize,
     answer: &mut [u8],
 ) -> Reply
     requires { (Kind.ReadAggregate ≡ kind_of c) × (early ≡ first_of (early_lines c)) }
-    ensures { (i : Item) → meaning i ≡ Nobody (viewed Kind.ReadAggregate c given (length answer.old)) → Answered table.old i answer.old result table.new answer.new }
+    ensures answered { (i : Item) → meaning i ≡ Nobody (viewed Kind.ReadAggregate c given (length answer.old)) → Answered (C.words table.old) i answer.old result (C.words table.new) answer.new }
+    ensures rest { C.rest table.new ≡ C.rest table.old }
 {
     if legal(table) {
         let status = view_status(early, Kind::ReadAggregate, c, given, answer.len());
@@ -108,9 +178,15 @@ fn answer_aggregate(
 }
 
 // Identify 04h: the whole page, written straight into the answer.
-fn answer_identify(table: &[u64], c: Command, early: u16, given: usize, answer: &mut [u8]) -> Reply
+fn answer_identify<C: Cell>(
+    table: &[C],
+    c: Command,
+    early: u16,
+    given: usize,
+    answer: &mut [u8],
+) -> Reply
     requires { (Kind.Identify ≡ kind_of c) × (early ≡ first_of (early_lines c)) }
-    ensures { (i : Item) → meaning i ≡ Nobody (viewed Kind.Identify c given (length answer.old)) → Answered table.now i answer.old result table.now answer.new }
+    ensures { (i : Item) → meaning i ≡ Nobody (viewed Kind.Identify c given (length answer.old)) → Answered (C.words table.now) i answer.old result (C.words table.now) answer.new }
 {
     if legal(table) {
         let status = view_status(early, Kind::Identify, c, given, answer.len());
@@ -126,9 +202,10 @@ fn answer_identify(table: &[u64], c: Command, early: u16, given: usize, answer: 
 }
 
 // Asynchronous Event Request.
-fn answer_request(table: &mut [u64], c: Command, early: u16) -> Reply
+fn answer_request<C: Cell>(table: &mut [C], c: Command, early: u16) -> Reply
     requires { (Kind.EventRequest ≡ kind_of c) × (early ≡ first_of (early_lines c)) }
-    ensures { (i : Item) (given : ℕ) (before : List ℕ) → meaning i ≡ Nobody (viewed Kind.EventRequest c given (length before)) → Answered table.old i before result table.new before }
+    ensures answered { (i : Item) (given : ℕ) (before : List ℕ) → meaning i ≡ Nobody (viewed Kind.EventRequest c given (length before)) → Answered (C.words table.old) i before result (C.words table.new) before }
+    ensures rest { C.rest table.new ≡ C.rest table.old }
 {
     if legal(table) {
         let waiting = waiting_at(table);
@@ -144,9 +221,10 @@ fn answer_request(table: &mut [u64], c: Command, early: u16) -> Reply
 }
 
 // Set Features 0Bh.
-fn answer_turn(table: &mut [u64], c: Command, early: u16, given: usize, room: usize) -> Reply
+fn answer_turn<C: Cell>(table: &mut [C], c: Command, early: u16, given: usize, room: usize) -> Reply
     requires { (Kind.SetNotices ≡ kind_of c) × (early ≡ first_of (early_lines c)) }
-    ensures { (i : Item) (before : List ℕ) → length before ≡ room → meaning i ≡ Nobody (viewed Kind.SetNotices c given room) → Answered table.old i before result table.new before }
+    ensures answered { (i : Item) (before : List ℕ) → length before ≡ room → meaning i ≡ Nobody (viewed Kind.SetNotices c given room) → Answered (C.words table.old) i before result (C.words table.new) before }
+    ensures rest { C.rest table.new ≡ C.rest table.old }
 {
     if legal(table) {
         let status = view_status(early, Kind::SetNotices, c, given, room);
@@ -161,9 +239,9 @@ fn answer_turn(table: &mut [u64], c: Command, early: u16, given: usize, room: us
 }
 
 // Get Features 0Bh.
-fn answer_notices(table: &[u64], c: Command, early: u16, given: usize, room: usize) -> Reply
+fn answer_notices<C: Cell>(table: &[C], c: Command, early: u16, given: usize, room: usize) -> Reply
     requires { (Kind.GetNotices ≡ kind_of c) × (early ≡ first_of (early_lines c)) }
-    ensures { (i : Item) (before : List ℕ) → length before ≡ room → meaning i ≡ Nobody (viewed Kind.GetNotices c given room) → Answered table.now i before result table.now before }
+    ensures { (i : Item) (before : List ℕ) → length before ≡ room → meaning i ≡ Nobody (viewed Kind.GetNotices c given room) → Answered (C.words table.now) i before result (C.words table.now) before }
 {
     if legal(table) {
         let status = view_status(early, Kind::GetNotices, c, given, room);
@@ -177,8 +255,8 @@ fn answer_notices(table: &[u64], c: Command, early: u16, given: usize, room: usi
     }
 }
 
-fn answer_view(
-    table: &mut [u64],
+fn answer_view<C: Cell>(
+    table: &mut [C],
     k: Kind,
     c: Command,
     early: u16,
@@ -186,25 +264,24 @@ fn answer_view(
     answer: &mut [u8],
 ) -> Reply
     requires { (k ≡ kind_of c) × (is_named k ≡ false) × (early ≡ first_of (early_lines c)) }
-    ensures { (i : Item) → meaning i ≡ Nobody (viewed k c given (length answer.old)) → Answered table.old i answer.old result table.new answer.new }
+    ensures answered { (i : Item) → meaning i ≡ Nobody (viewed k c given (length answer.old)) → Answered (C.words table.old) i answer.old result (C.words table.new) answer.new }
+    ensures rest { C.rest table.new ≡ C.rest table.old }
 {
     match k {
         Kind::SetNotices => answer_turn(table, c, early, given, answer.len()),
-        Kind::SetConfig => done(),
-        Kind::SetWindow => done(),
         Kind::GetNotices => answer_notices(table, c, early, given, answer.len()),
-        Kind::GetConfig => done(),
-        Kind::GetWindow => done(),
-        Kind::ReadLatency => done(),
         Kind::ReadAggregate => answer_aggregate(table, c, early, given, answer),
         Kind::EventRequest => answer_request(table, c, early),
         Kind::Identify => answer_identify(table, c, early, given, answer),
+        // the others name a set
+        _ => done(),
     }
 }
 
 // Any command: its 64 bytes, its data in, and the buffer for its answer.
-pub fn command(table: &mut [u64], bytes: &[u8], given: &[u8], answer: &mut [u8]) -> Reply
-    ensures { Answered table.old (Item.command bytes.now given.now (length answer.old)) answer.old result table.new answer.new }
+pub fn command<C: Cell>(table: &mut [C], bytes: &[u8], given: &[u8], answer: &mut [u8]) -> Reply
+    ensures answered { Answered (C.words table.old) (Item.command bytes.now given.now (length answer.old)) answer.old result (C.words table.new) answer.new }
+    ensures rest { C.rest table.new ≡ C.rest table.old }
 {
     let c = command_in(bytes);
     let k = kind_of(c);
@@ -216,26 +293,17 @@ pub fn command(table: &mut [u64], bytes: &[u8], given: &[u8], answer: &mut [u8])
     }
 }
 
-// The same, handing back that part of the answer buffer which was written; of the notice beside it, whether there is one and the
-// identifier of its request.
-pub fn command_part<'a>(
-    table: &mut [u64],
+// The same, handing back that part of the answer buffer which was written.
+pub fn command_part<'a, C: Cell>(
+    table: &mut [C],
     bytes: &[u8],
     given: &[u8],
     answer: &'a mut [u8],
-    status: &mut u16,
-    dword: &mut u32,
-    told: &mut u16,
-    to: &mut u16,
-) -> &'a mut [u8]
-    ensures { Handed table.old (Item.command bytes.now given.now (length answer.old)) (length answer.old) table.new status.new dword.new told.new to.new result.now }
+) -> (Reply, &'a mut [u8])
+    ensures handed { Handed (C.words table.old) (Item.command bytes.now given.now (length answer.old)) (length answer.old) (C.words table.new) result.0.status result.0.dword (told_no result.0.notice) (to_no result.0.notice) result.1.now }
+    ensures rest { C.rest table.new ≡ C.rest table.old }
 {
-    let x = command(table, bytes, given, answer);
-    let notice = x.notice;
-    *status = x.status;
-    *dword = x.dword;
-    *told = told_no(notice);
-    *to = to_no(notice);
-    let n = x.len;
-    &mut answer[0..n]
+    let reply = command(table, bytes, given, answer);
+    let n = reply.len;
+    (reply, &mut answer[0..n])
 }

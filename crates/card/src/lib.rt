@@ -1,4 +1,4 @@
-// The card on a lent table of words: set-up, media events, ticks and commands.
+// The card on a lent table, of words or of their bytes: set-up, media events, ticks and commands.
 #![tactic(auto)]
 
 pub mod commanded;

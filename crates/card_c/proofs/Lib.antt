@@ -1,5 +1,4 @@
-pub mod Region
+pub mod InBytes
 pub mod Refusals
-pub mod Filling
 pub mod Replies
 pub mod HeldByC

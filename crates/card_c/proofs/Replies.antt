@@ -33,6 +33,9 @@ pub page_is : (dword len : ℕ) (n : Notice) → reply_page dword len n ≡ numb
 unfolding reply_page place
 page_is dword len n = refl
 
+pub page_long : (dword len : ℕ) (n : Notice) → length (reply_page dword len n) ≡ reply_size
+page_long dword len n = ap length (page_is dword len n)
+
 pub whole :
     (r : List ℕ) (dword len : ℕ) (n : Notice)
     → sets (sets (sets (sets (sets r 0 (bytes_of 4 dword)) 4 (bytes_of 4 len)) 8 (bytes_of 2 (told_no n))) 10 (bytes_of 2 (to_no n))) 12 (bytes_of 4 (notice_no n))

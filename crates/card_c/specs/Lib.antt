@@ -1,4 +1,3 @@
 pub mod Entries
-pub mod InPlace
 pub mod Demands
 pub mod HeldByC

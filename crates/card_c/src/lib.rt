@@ -1,21 +1,17 @@
 // The card for C: functions on numbers and byte slices. `card_c_c` exports them, each slice a pointer and a length, and include/card.h
-// describes them.
+// describes them. The table is a run of bytes, which `card` serves as it serves words.
 #![tactic(auto)]
 
-mod commanded;
-mod media;
 mod reply;
-mod set_up;
-mod views;
 
 ghost use Rattle.std.specs.Prelude.{[], length};
 ghost use Rattle.steps.specs.Items.{Item};
 ghost use Rattle.card_c.specs.Entries.{SetUpAtC, AnsweredAtC};
 
-use crate::media::{event, ticks};
 use crate::reply::put_reply;
-use crate::set_up::set_up;
-use rules::Media;
+use card::media::{excursion, reads, ticks, writes};
+use card::set_up::set_up;
+use record::SetId;
 
 pub fn card_set_up(table: &mut [u8], bodies: &[u8]) -> u16
     ensures { SetUpAtC bodies.now table.old table.new result }
@@ -32,36 +28,32 @@ pub fn card_command(
 ) -> u16
     ensures { AnsweredAtC table.old (Item.command command.now given.now (length answer.old)) answer.old reply.old result table.new answer.new reply.new }
 {
-    let r = crate::commanded::command(table, command, given, answer);
-    let notice = r.notice;
-    put_reply(reply, r.dword, r.len, notice);
+    let r = card::commanded::command(table, command, given, answer);
+    put_reply(reply, r);
     r.status
 }
 
 pub fn card_reads(table: &mut [u8], set: u16, count: u16, reply: &mut [u8]) -> u16
     ensures { AnsweredAtC table.old (Item.reads set count) [] reply.old result table.new [] reply.new }
 {
-    let r = event(table, set, Media::Reads(count));
-    let notice = r.notice;
-    put_reply(reply, r.dword, r.len, notice);
+    let r = reads(table, SetId(set), count);
+    put_reply(reply, r);
     r.status
 }
 
 pub fn card_writes(table: &mut [u8], set: u16, count: u16, reply: &mut [u8]) -> u16
     ensures { AnsweredAtC table.old (Item.writes set count) [] reply.old result table.new [] reply.new }
 {
-    let r = event(table, set, Media::Writes(count));
-    let notice = r.notice;
-    put_reply(reply, r.dword, r.len, notice);
+    let r = writes(table, SetId(set), count);
+    put_reply(reply, r);
     r.status
 }
 
 pub fn card_excursion(table: &mut [u8], set: u16, reply: &mut [u8]) -> u16
     ensures { AnsweredAtC table.old (Item.excursion set) [] reply.old result table.new [] reply.new }
 {
-    let r = event(table, set, Media::Excursion);
-    let notice = r.notice;
-    put_reply(reply, r.dword, r.len, notice);
+    let r = excursion(table, SetId(set));
+    put_reply(reply, r);
     r.status
 }
 
@@ -69,7 +61,6 @@ pub fn card_tick(table: &mut [u8], milliseconds: u32, answer: &mut [u8], reply: 
     ensures { AnsweredAtC table.old (Item.tick milliseconds (length answer.old)) answer.old reply.old result table.new answer.new reply.new }
 {
     let r = ticks(table, milliseconds, answer);
-    let notice = r.notice;
-    put_reply(reply, r.dword, r.len, notice);
+    put_reply(reply, r);
     r.status
 }

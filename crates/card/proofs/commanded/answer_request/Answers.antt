@@ -9,21 +9,21 @@ use Rattle.by_value.proofs.Viewed.{viewed_refused, viewed_told}
 use Rattle.card.proofs.commanded.answer_request.Goals as goal
 
 pub waiting_at-waiting-requires : goal.waiting_at-waiting-requires
-waiting_at-waiting-requires c = desk_there _ (legal_known _ (sym c.legal.ensures ∙ c.if-legal.true))
+waiting_at-waiting-requires g c = desk_there _ (legal_known _ (sym c.legal.ensures ∙ c.if-legal.true))
 
 pub queue-requires : goal.queue-requires
-queue-requires c = (
+queue-requires g c = (
   desk_there _ (legal_known _ (sym c.legal.ensures ∙ c.if-legal.true)),
-  request_few c.args.c 0 0 (desk_at c.args.table.now).waiting (sym (rw c.waiting_at-waiting.ensures at (c.request_status-status.ensures 0 0)) ∙ c.if-status-eq0.true),
+  request_few c.args.c 0 0 (desk_at (g.C.Cell.words c.args.table.now)).waiting (sym (rw c.waiting_at-waiting.ensures at (c.request_status-status.ensures 0 0)) ∙ c.if-status-eq0.true),
 )
 
-pub returns-then-status-eq0 : goal.returns-then-status-eq0
-returns-then-status-eq0 c =
+pub returns-then-status-eq0-clause-answered : goal.returns-then-status-eq0-clause-answered
+returns-then-status-eq0-clause-answered g c =
     λ i given before m.
-    viewed_told _ i EventRequest c.args.c given before m (sym c.legal.ensures ∙ c.if-legal.true) _ (rw c.waiting_at-waiting.ensures at (c.request_status-status.ensures given (length before))) _ _ _ _ c.if-status-eq0.true (rw c.identifier_of.ensures at c.queue.ensures) refl refl c.awaiting.ensures c.beside.ensures
+    viewed_told _ i EventRequest c.args.c given before m (sym c.legal.ensures ∙ c.if-legal.true) _ (rw c.waiting_at-waiting.ensures at (c.request_status-status.ensures given (length before))) _ _ _ _ c.if-status-eq0.true (rw c.identifier_of.ensures at c.queue.ensures.desk) refl refl c.awaiting.ensures c.beside.ensures
 
-pub returns-else-status-eq0 : goal.returns-else-status-eq0
-returns-else-status-eq0 c = λ i given before m. viewed_refused _ i EventRequest c.args.c given before m (sym c.legal.ensures ∙ c.if-legal.true) _ (rw c.waiting_at-waiting.ensures at (c.request_status-status.ensures given (length before))) _ c.if-status-eq0.false c.refuse.ensures
+pub returns-else-status-eq0-clause-answered : goal.returns-else-status-eq0-clause-answered
+returns-else-status-eq0-clause-answered g c = λ i given before m. viewed_refused _ i EventRequest c.args.c given before m (sym c.legal.ensures ∙ c.if-legal.true) _ (rw c.waiting_at-waiting.ensures at (c.request_status-status.ensures given (length before))) _ c.if-status-eq0.false c.refuse.ensures
 
-pub returns-else-legal : goal.returns-else-legal
-returns-else-legal c = λ i given before m. answered_bad _ i _ _ (sym c.legal.ensures ∙ c.if-legal.false) c.refuse-else-legal.ensures
+pub returns-else-legal-clause-answered : goal.returns-else-legal-clause-answered
+returns-else-legal-clause-answered g c = λ i given before m. answered_bad _ i _ _ (sym c.legal.ensures ∙ c.if-legal.false) c.refuse-else-legal.ensures

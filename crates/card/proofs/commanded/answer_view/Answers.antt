@@ -1,48 +1,11 @@
-use mathlib.Core.Path.{refl, sym, ◌∙◌}
-use mathlib.Core.Bool.{false≢true}
+use mathlib.Core.Path.{refl}
 use Rattle.card.proofs.commanded.answer_view.Goals as goal
 
-pub answer_turn-requires : goal.answer_turn-requires
-answer_turn-requires c = (sym c.in-SetNotices.is ∙ c.requires.0, c.requires.2)
+pub returns-in-SetNotices-clause-answered : goal.returns-in-SetNotices-clause-answered
+returns-in-SetNotices-clause-answered g c = rw c.in-SetNotices.is (λ i m. c.answer_turn.ensures.answered i _ refl m)
 
-pub answer_notices-requires : goal.answer_notices-requires
-answer_notices-requires c = (sym c.in-GetNotices.is ∙ c.requires.0, c.requires.2)
+pub returns-in-GetNotices-clause-answered : goal.returns-in-GetNotices-clause-answered
+returns-in-GetNotices-clause-answered g c = rw c.in-GetNotices.is (λ i m. c.answer_notices.ensures i _ refl m)
 
-pub answer_aggregate-requires : goal.answer_aggregate-requires
-answer_aggregate-requires c = (sym c.in-ReadAggregate.is ∙ c.requires.0, c.requires.2)
-
-pub answer_request-requires : goal.answer_request-requires
-answer_request-requires c = (sym c.in-EventRequest.is ∙ c.requires.0, c.requires.2)
-
-pub answer_identify-requires : goal.answer_identify-requires
-answer_identify-requires c = (sym c.in-Identify.is ∙ c.requires.0, c.requires.2)
-
-pub returns-in-SetNotices : goal.returns-in-SetNotices
-returns-in-SetNotices c = rw c.in-SetNotices.is (λ i m. c.answer_turn.ensures i _ refl m)
-
-pub returns-in-SetConfig : goal.returns-in-SetConfig
-returns-in-SetConfig c = absurd (false≢true (sym (rw c.in-SetConfig.is at c.requires.1)))
-
-pub returns-in-SetWindow : goal.returns-in-SetWindow
-returns-in-SetWindow c = absurd (false≢true (sym (rw c.in-SetWindow.is at c.requires.1)))
-
-pub returns-in-GetNotices : goal.returns-in-GetNotices
-returns-in-GetNotices c = rw c.in-GetNotices.is (λ i m. c.answer_notices.ensures i _ refl m)
-
-pub returns-in-GetConfig : goal.returns-in-GetConfig
-returns-in-GetConfig c = absurd (false≢true (sym (rw c.in-GetConfig.is at c.requires.1)))
-
-pub returns-in-GetWindow : goal.returns-in-GetWindow
-returns-in-GetWindow c = absurd (false≢true (sym (rw c.in-GetWindow.is at c.requires.1)))
-
-pub returns-in-ReadLatency : goal.returns-in-ReadLatency
-returns-in-ReadLatency c = absurd (false≢true (sym (rw c.in-ReadLatency.is at c.requires.1)))
-
-pub returns-in-ReadAggregate : goal.returns-in-ReadAggregate
-returns-in-ReadAggregate c = rw c.in-ReadAggregate.is c.answer_aggregate.ensures
-
-pub returns-in-EventRequest : goal.returns-in-EventRequest
-returns-in-EventRequest c = rw c.in-EventRequest.is (λ i m. c.answer_request.ensures i c.args.given _ m)
-
-pub returns-in-Identify : goal.returns-in-Identify
-returns-in-Identify c = rw c.in-Identify.is c.answer_identify.ensures
+pub returns-in-EventRequest-clause-answered : goal.returns-in-EventRequest-clause-answered
+returns-in-EventRequest-clause-answered g c = rw c.in-EventRequest.is (λ i m. c.answer_request.ensures.answered i c.args.given _ m)

@@ -1,31 +1,21 @@
-use mathlib.Core.Path.{ap, ◌∙◌}
-use Rattle.replies.specs.Numbers.{unknown_set}
+use mathlib.Core.Path.{refl, ap, ◌∙◌}
 use Rattle.replies.specs.Answers.{refusing}
-use Rattle.steps.specs.Words.{entry_no}
 use Rattle.by_value.proofs.Told.{entered_desk, stored_desk}
-use Rattle.by_value.proofs.EventsAndTicks.{entered, event_bad, event_unknown, event_here}
+use Rattle.by_value.proofs.EventsAndTicks.{event_absent, event_here}
+use Rattle.card.proofs.InPlace.{entered_at}
 use Rattle.card.proofs.media.event.Goals as goal
 
-pub load-r-requires : goal.load-r-requires
-load-r-requires c = entered _ _ _ _ c.enter-e.ensures c.in-Here.is
-
-pub store-requires : goal.store-requires
-store-requires c = entered _ _ _ _ c.enter-e.ensures c.in-Here.is
+pub event_at-new-requires : goal.event_at-new-requires
+event_at-new-requires g c = entered_at (g.C.Cell.words c.args.table.now) c.args.id.0 _ _ c.enter.ensures c.in-Ok.is
 
 pub settle-requires : goal.settle-requires
-settle-requires c = stored_desk _ _ _ _ c.store.ensures (entered_desk _ _ _ _ c.enter-e.ensures c.in-Here.is)
+settle-requires g c = stored_desk _ _ _ _ c.event_at-new.ensures.stored.table (entered_desk (g.C.Cell.words c.args.table.now) c.args.id.0 _ _ c.enter.ensures c.in-Ok.is)
 
-pub returns-in-Bad : goal.returns-in-Bad
-returns-in-Bad c =
-    let e = c.in-Bad.is in
-    event_bad _ _ c.args.m _ c.enter-e.ensures _ e (c.refuse.ensures ∙ ap refusing (c.entry_no.ensures ∙ ap (entry_no unknown_set) e))
+pub returns-in-Err-clause-answered : goal.returns-in-Err-clause-answered
+returns-in-Err-clause-answered g c =
+    event_absent (g.C.Cell.words c.args.table.now) c.args.id.0 c.args.m _ c.enter.ensures _ _ c.in-Err.is (c.refuse.ensures ∙ ap refusing c.entry_no.ensures)
 
-pub returns-in-Unknown : goal.returns-in-Unknown
-returns-in-Unknown c =
-    let e = c.in-Unknown.is in
-    event_unknown _ _ c.args.m _ c.enter-e.ensures _ e (c.refuse-in-Unknown.ensures ∙ ap refusing (c.entry_no-in-Unknown.ensures ∙ ap (entry_no unknown_set) e))
-
-pub returns-in-Here : goal.returns-in-Here
-returns-in-Here c =
-    event_here _ _ c.args.m _ c.enter-e.ensures _ _ c.in-Here.is _ _ _ _ _ _ _ c.load-r.ensures c.after_event-x.ensures c.store.ensures c.newly_listed.ensures
-    c.settle.ensures c.done.ensures c.beside.ensures
+pub returns-in-Ok-clause-answered : goal.returns-in-Ok-clause-answered
+returns-in-Ok-clause-answered g c =
+    let s = c.event_at-new.ensures.stored in
+    event_here (g.C.Cell.words c.args.table.now) c.args.id.0 c.args.m _ c.enter.ensures _ _ c.in-Ok.is _ _ _ _ _ _ _ refl refl s.table s.listed c.settle.ensures.desk c.done.ensures c.beside.ensures

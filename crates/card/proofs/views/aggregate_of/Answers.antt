@@ -1,9 +1,5 @@
-use borrow.Author.Rules.{rules}
 use Rattle.by_value.proofs.WholeCard.{aggregate_is}
 use Rattle.card.proofs.views.aggregate_of.Goals as goal
 
-pub list_all-requires : goal.list_all-requires
-list_all-requires c = (c.requires, c.listed_word-word.ensures, search rules)
-
 pub returns : goal.returns
-returns c = aggregate_is c.args.table.now c.requires _ c.listed_word-word.ensures _ _ c.count_page-p.ensures c.list_all.ensures
+returns g c = aggregate_is (g.C.Cell.words c.args.table.now) c.requires _ c.listed_word-word.ensures _ _ c.count_page-p.ensures c.list_all.ensures

@@ -1,32 +1,28 @@
-use native.Mathlib.Omega.{arith}
+use mathlib.Core.Path.{◌≡◌, refl}
+use mathlib.Core.Bool.{true, false}
+use Prim.Native.Nat.{ℕ, ◌<◌, ◌≤◌}
+use borrow.Author.Tests.{lt-ltb, le-ltb}
 use borrow.Author.Rules.{rules}
-use Rattle.table.specs.Table.{count}
-use Rattle.by_value.proofs.WholeCard.{going_start, left_over, going_room, going_on, going_end}
+use Rattle.pages.specs.Identify.{identify_size}
+use Rattle.by_value.proofs.WholeCard.{goes_on, going_start, going_on, going_end}
 use Rattle.card.proofs.views.show_all.Goals as goal
 
+goes : (n i to : ℕ) → i < n → to < identify_size → goes_on n i to ≡ true
+goes n i to h t = rw (lt-ltb i n h, lt-ltb to identify_size t)
+
+over : (n i to : ℕ) → n ≤ i → goes_on n i to ≡ false
+over n i to h = rw (le-ltb i n h)
+
 pub loop-i-init : goal.loop-i-init
-loop-i-init c = (search rules, search rules, λ e. going_start c.args.page.now c.args.table.now c.args.from.0 _ e)
-
-pub show_slot-to-requires : goal.show_slot-to-requires
-show_slot-to-requires c =
-    let l = c.loop-i in
-    let g = going_room c.args.page.now c.args.table.now c.args.from.0 _ c.count_of-n.ensures l.page l.to l.i c.loop-i-test.true (l.invariant.2 c.count_of-n.ensures) c.requires.1 in
-    let i = left_over _ (count c.args.table.now) l.i l.to c.count_of-n.ensures c.loop-i-test.true in
-    (g, omega (arith, c.requires.0.room, c.count_of-n.ensures, i))
-
-pub loop-i-smaller : goal.loop-i-smaller
-loop-i-smaller c =
-    let l = c.loop-i in
-    omega (arith, c.count_of-n.ensures, left_over _ (count c.args.table.now) l.i l.to c.count_of-n.ensures c.loop-i-test.true)
+loop-i-init g c = (refl, going_start c.args.page.now (g.C.Cell.words c.args.table.now) c.args.from.0 _ refl)
 
 pub loop-i-preserved : goal.loop-i-preserved
-loop-i-preserved c =
+loop-i-preserved g c =
     let l = c.loop-i in
-    let below = left_over _ (count c.args.table.now) l.i l.to c.count_of-n.ensures c.loop-i-test.true in
-    (omega (arith, c.count_of-n.ensures, below), search rules, λ e. going_on c.args.page.now c.args.table.now c.args.from.0 _ e l.page l.to l.i c.loop-i-test.true (l.invariant.2 e) _ _ c.show_slot-to.ensures)
+    let h = rw c.count_of-i-end.ensures at c.loop-i-test.true in
+    (search rules, going_on c.args.page.now (g.C.Cell.words c.args.table.now) c.args.from.0 _ refl l.page l.to l.i (goes _ l.i l.to h c.if-to-ge-IDENTIFY_SIZE.false) l.invariant.1 _ _ c.show_slot-to.ensures)
 
 pub returns : goal.returns
-returns c =
+returns g c =
     let l = c.loop-i in
-    let e = c.count_of-n.ensures in
-    going_end c.args.page.now c.args.table.now c.args.from.0 _ e l.page l.to l.i c.loop-i-test.false (l.invariant.2 e)
+    going_end c.args.page.now (g.C.Cell.words c.args.table.now) c.args.from.0 _ refl l.page l.to l.i (over _ l.i l.to (rw c.count_of-i-end.ensures at c.loop-i-test.false)) l.invariant.1
