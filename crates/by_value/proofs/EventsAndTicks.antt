@@ -29,7 +29,7 @@ use Rattle.steps.specs.Items.{Item, tick, item_of}
 use Rattle.steps.specs.Meanings.{event, ticked, meaning}
 use Rattle.by_value.specs.Ticks.{tick_one}
 use Rattle.steps.specs.Card.{refusal_all, refusal_of, concerns, touched, sets_after, effect_on, at_desk, after, answer}
-use Rattle.steps.specs.Words.{card_of, unchanged, step_words, Answered}
+use Rattle.steps.specs.Words.{card_of, unchanged, step_words, entry_no, Answered}
 use Rattle.octets.specs.Lists.{join}
 use Rattle.octets.proofs.Lists.{map_same}
 use Rattle.steps.proofs.ItemShapes.{touched_own}
@@ -66,6 +66,15 @@ module _ (ws : List ℕ) (id : ℕ) (m : Media) (e : Entry) (known : e ≡ enter
   event_unknown q ex =
       let f = is_unknown ws id (sym known ∙ q) in
       turned_down ws (item_of id m) [] unknown_set x (step_unknown ws (item_of id m) id (event (media_rule m)) (meaning_media id m) f.0 f.1 (λ z. omega arith)) ex
+
+  -- either, as the way in tells it
+  pub event_refused : (r : ℕ) → r ≡ entry_no unknown_set e → (r ≡ 0 → ⊥) → x ≡ refusing r → Answered ws (item_of id m) [] x ws []
+  event_refused r er n ex = by_entry e refl
+    where
+      by_entry : (f : Entry) → e ≡ f → Answered ws (item_of id m) [] x ws []
+      by_entry Bad q = event_bad q (ex ∙ ap refusing (rw q at er))
+      by_entry Unknown q = event_unknown q (ex ∙ ap refusing (rw q at er))
+      by_entry (Here s) q = absurd (n (rw q at er))
 
   module _ (s : Slot) (q : e ≡ Here s) where
     -- the record that was loaded, the record that the rule made of it, and the table that has it; then the desk is told

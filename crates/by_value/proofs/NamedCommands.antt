@@ -1,5 +1,5 @@
 -- Commands that name a set, from the step to the words and the answer buffer.
-use mathlib.Core.Path.{◌≡◌, refl, sym, ◌∙◌}
+use mathlib.Core.Path.{◌≡◌, refl, sym, ap, ◌∙◌}
 use mathlib.Core.Bool.{Bool, true, false}
 use mathlib.Core.List.{List, [], ◌∷◌, ◌++◌}
 use Prim.Native.Nat.{ℕ}
@@ -25,7 +25,7 @@ use Rattle.commands.specs.Shapes.{named_by}
 use Rattle.commands.specs.StatusTable.{early_lines, unknown_number}
 use Rattle.steps.specs.Commanded.{named}
 use Rattle.steps.specs.Meanings.{meaning}
-use Rattle.steps.specs.Words.{Answered}
+use Rattle.steps.specs.Words.{entry_no, Answered}
 use Rattle.by_value.specs.OnSet.{status_on, OnSet}
 use Rattle.steps.proofs.StepOnWords.{step_bad, step_unknown, step_late, step_done}
 use Rattle.replies.proofs.Answering.{refused_reply}
@@ -47,6 +47,17 @@ module _ (ws : List ℕ) (k : Kind) (c : Command) (given before : List ℕ) (e :
       let f = is_unknown ws (named_by k c) (sym known ∙ q) in
       let d = step_unknown ws i (named_by k c) (named k c given (length before)) m f.0 f.1 (unknown_not_zero c) in
       record { table = rw d; reply = rw (d, ex, es) (refused_reply _ before); notice = rw (d, ex) }
+
+  -- either, as the way in tells it
+  pub named_refused :
+      (x : Reply) (s r : ℕ) → s ≡ first_of (early_lines c ++ line true unknown_number ∷ []) → r ≡ entry_no s e → (r ≡ 0 → ⊥) → x ≡ refusing r
+      → Answered ws i before x ws before
+  named_refused x s r es er n ex = by_entry e refl
+    where
+      by_entry : (f : Entry) → e ≡ f → Answered ws i before x ws before
+      by_entry Bad q = named_bad x q (ex ∙ ap refusing (rw q at er))
+      by_entry Unknown q = named_unknown x s q es (ex ∙ ap refusing (rw q at er))
+      by_entry (Here slot) q = absurd (n (rw q at er))
 
   module _ (slot : Slot) (q : e ≡ Here slot) (x : Reply) (words buffer : List ℕ) (o : OnSet ws slot.0 k c given before x words buffer) where
     rec : Record

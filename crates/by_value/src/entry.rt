@@ -1,16 +1,19 @@
-// The refusal of an item that names a set, by what stands at its identifier.
-ghost use Rattle.std.specs.Prelude.{◌≡◌};
+// The slot of the set that an item names, or the refusal of the item, by what stands at its identifier.
+ghost use Rattle.std.specs.Prelude.{◌≡◌, MatchResult};
+ghost use Rattle.replies.specs.Numbers.{number};
+ghost use Rattle.table.specs.declared.Entry.TheVariants.{Here};
 ghost use Rattle.steps.specs.Words.{entry_no};
 
-use replies::numbers::{BAD_TABLE, SUCCESS};
+use record::Slot;
+use replies::Refusal;
 use table::Entry;
 
-pub fn entry_no(unknown: u16, e: Entry) -> u16
-    ensures { result ≡ entry_no unknown e }
+pub fn found(e: Entry, unknown: Refusal) -> Result<Slot, Refusal>
+    ensures { MatchResult result (λ slot. e ≡ Here slot) (λ r. number r ≡ entry_no (number unknown) e) }
 {
     match e {
-        Entry::Bad => BAD_TABLE,
-        Entry::Unknown => unknown,
-        Entry::Here(slot) => SUCCESS,
+        Entry::Bad => Err(Refusal::BadTable),
+        Entry::Unknown => Err(unknown),
+        Entry::Here(slot) => Ok(slot),
     }
 }

@@ -1,5 +1,6 @@
 // The record of a new set, and what set-up refuses.
 ghost use Rattle.std.specs.Prelude.{◌≡◌, map, ◌+◌, ◌*◌, ◌≤◌, length};
+ghost use Rattle.replies.specs.Status.{status_no};
 ghost use Rattle.table.specs.Table.{legal_sets};
 ghost use Rattle.pages.specs.Bodies.{body_size, attributes_in};
 ghost use Rattle.steps.specs.SetUp.{new_state, new_record, attributes_from, set_up_status};
@@ -9,7 +10,7 @@ use pages::bodies::{BODY, body_id, body_legal};
 use record::event::no_events;
 use record::parts::{config_of, nothing_recovered, nothing_spent, state_of};
 use record::{Attributes, Notes, Record, State, Window};
-use replies::numbers::{BAD_SET_UP, TOO_SHORT};
+use replies::Refusal;
 use table::MAX_SETS;
 use table::layout::{HEADER, ROW};
 
@@ -23,16 +24,13 @@ fn new_state() -> State
 pub fn new_record(a: Attributes) -> Record
     ensures { result ≡ new_record a }
 {
-    let state = new_state();
-    let events = no_events();
-    let notes = Notes {
-        events: events,
-        listed: false,
-    };
     Record {
         attributes: a,
-        state: state,
-        notes: notes,
+        state: new_state(),
+        notes: Notes {
+            events: no_events(),
+            listed: false,
+        },
     }
 }
 
@@ -41,8 +39,7 @@ fn follows(before: u64, bytes: &[u8], at: usize) -> bool
     requires { at + body_size ≤ length bytes.now }
     ensures { result ≡ follows_of before (attributes_in bytes.now at) }
 {
-    let legal = body_legal(bytes, at);
-    legal & (before < body_id(bytes, at))
+    body_legal(bytes, at) & (before < body_id(bytes, at))
 }
 
 fn bodies_legal(bytes: &[u8], n: usize) -> bool
@@ -50,30 +47,25 @@ fn bodies_legal(bytes: &[u8], n: usize) -> bool
     ensures { result ≡ legal_sets 0 (map new_record (attributes_from bytes.now 0 n)) }
 {
     let mut before = 0;
-    let mut at = 0;
-    let mut i = 0;
-    while i < n {
-        if follows(before, bytes, at) {
-            before = body_id(bytes, at);
-        } else {
+    for i in 0..n {
+        let at = i * BODY;
+        if !follows(before, bytes, at) {
             return false;
         }
-        at += BODY;
-        i += 1;
+        before = body_id(bytes, at);
     }
     true
 }
 
-pub fn refusal(bytes: &[u8], words: usize) -> u16
-    ensures { result ≡ set_up_status bytes.now words }
+pub fn refusal(bytes: &[u8], words: usize) -> Result<(), Refusal>
+    ensures { status_no result ≡ set_up_status bytes.now words }
 {
     let n = bytes.len() / BODY;
     let legal = bodies_legal(bytes, n);
-    let tests = [
-        !((1 <= n) & (n <= MAX_SETS)),
-        !(bytes.len() % BODY == 0),
-        !legal,
-        words < HEADER + n * ROW,
-    ];
-    replies::first(&tests, &[BAD_SET_UP, BAD_SET_UP, BAD_SET_UP, TOO_SHORT])
+    replies::first(&[
+        (!((1 <= n) & (n <= MAX_SETS)), Refusal::BadSetUp),
+        (!(bytes.len() % BODY == 0), Refusal::BadSetUp),
+        (!legal, Refusal::BadSetUp),
+        (words < HEADER + n * ROW, Refusal::TooShort),
+    ])
 }

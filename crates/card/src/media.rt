@@ -6,24 +6,21 @@ ghost use Rattle.steps.specs.Items.{Item, item_of};
 ghost use Rattle.by_value.specs.Ticks.{tick_one};
 ghost use Rattle.steps.specs.Words.{Answered};
 
-use by_value::entry::entry_no;
+use by_value::entry::found;
 use by_value::media::{after_event, after_tick};
 use record::event::newly_listed;
 use record::legal::DAY_MS;
 use record::{SetId, Slot};
-use replies::numbers::{BAD_TABLE, TICK_TOO_LONG, UNKNOWN_SET};
-use replies::{Reply, beside, done, refuse};
+use replies::{Refusal, Reply, beside, done, refuse};
 use rules::Media;
-use table::{Entry, enter, legal, load, settle, store};
+use table::{enter, legal, load, settle, store};
 
 pub fn event(table: &mut [u64], id: SetId, m: Media) -> Reply
     ensures { Answered table.old (item_of id.0 m) [] result table.new [] }
 {
-    let e = enter(table, id);
-    match e {
-        Entry::Bad => refuse(entry_no(UNKNOWN_SET, e)),
-        Entry::Unknown => refuse(entry_no(UNKNOWN_SET, e)),
-        Entry::Here(slot) => {
+    match found(enter(table, id), Refusal::UnknownSet) {
+        Err(r) => refuse(r),
+        Ok(slot) => {
             let r = load(table, slot);
             let x = after_event(r, m);
             store(table, slot, x);
@@ -73,12 +70,12 @@ pub fn ticks(table: &mut [u64], t: u32, answer: &mut [u8]) -> Reply
 {
     if legal(table) {
         if DAY_MS < t {
-            return refuse(TICK_TOO_LONG);
+            return refuse(Refusal::TickTooLong);
         }
         let n = table::count_of(table);
         let new = tick_all(table, n, t);
         beside(done(), settle(table, new))
     } else {
-        refuse(BAD_TABLE)
+        refuse(Refusal::BadTable)
     }
 }

@@ -8,6 +8,7 @@ ghost use Rattle.by_value.specs.SetUp.{kept_record};
 use by_value::set_up::{new_record, refusal};
 use pages::bodies::{BODY, attributes_in};
 use record::Slot;
+use replies::numbers::SUCCESS;
 use table::layout::LAYOUT;
 
 // The rows of n new sets.
@@ -29,12 +30,12 @@ fn write_rows(table: &mut [u64], bytes: &[u8], n: usize)
 pub fn set_up(table: &mut [u64], bytes: &[u8]) -> u16
     ensures { SetUp bytes.now table.old table.new result }
 {
-    let status = refusal(bytes, table.len());
-    if status == 0 {
-        let n = bytes.len() / BODY;
-        let header = [LAYOUT, n as u64, 0, 0, 0, 0, 0, 0, 0, 0];
-        octets::copy_words(table, 0, &header);
-        write_rows(table, bytes, n);
+    if let Err(r) = refusal(bytes, table.len()) {
+        return u16::from(r);
     }
-    status
+    let n = bytes.len() / BODY;
+    let header = [LAYOUT, n as u64, 0, 0, 0, 0, 0, 0, 0, 0];
+    octets::copy_words(table, 0, &header);
+    write_rows(table, bytes, n);
+    SUCCESS
 }

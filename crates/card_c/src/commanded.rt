@@ -1,9 +1,7 @@
 // What a command does and answers, on the table where it lies.
 ghost use Rattle.std.specs.Prelude.{◌≡◌, true, false, List, ℕ, ◌≤◌, length, if◌then◌else◌};
-ghost use Rattle.replies.specs.Status.{first_of};
 ghost use Rattle.commands.specs.declared.Kind.{Kind};
-ghost use Rattle.commands.specs.Shapes.{kind_of, is_named, named_by, needs_in};
-ghost use Rattle.commands.specs.StatusTable.{early_lines};
+ghost use Rattle.commands.specs.Shapes.{is_named, named_by, needs_in};
 ghost use Rattle.record.specs.Event.{newly_listed};
 ghost use Rattle.desk.specs.Desk.{lifted};
 ghost use Rattle.table.specs.Table.{desk_at, with_desk, DeskThere};
@@ -20,18 +18,15 @@ use crate::views::{aggregate_of, set_list_onto};
 use by_value::commanded::{
     after_clearing, after_config, after_window, hand_by, notices_no, status_on,
 };
-use by_value::entry::entry_no;
-use commands::shapes::{is_named, kind_of, named_by, needs_out};
-use commands::status_table::{early_status, request_status, unknown_status, view_status};
+use by_value::entry::found;
+use commands::asked::{Asked, ask};
+use commands::shapes::{named_by, needs_out};
+use commands::status_table::{request_status, unknown_refusal, view_status};
 use commands::{Command, Kind, asked_by, command_in, identifier_of, offset_of, retains, turns_on};
 use pages::identify::IDENTIFY_SIZE;
 use record::event::newly_listed;
-use record::{Record, Slot};
-use replies::numbers::BAD_TABLE;
-use replies::{Notice, Reply, awaiting, beside, done, give, refuse};
-use table::Entry;
-
-// `early` is the number of the first row before the look-up that holds, or 0: it is asked once.
+use record::{Record, SetId, Slot};
+use replies::{Notice, Refusal, Reply, awaiting, beside, done, give, refuse};
 
 // Each of these answers whether the set was listed by it.
 
@@ -85,46 +80,35 @@ fn change(region: &mut [u8], slot: Slot, k: Kind, c: Command, given: &[u8], r: R
 }
 
 // A command that names a set, which was found.
-fn answer_set(
-    region: &mut [u8],
-    slot: Slot,
-    k: Kind,
-    c: Command,
-    early: u16,
-    given: &[u8],
-    answer: &mut [u8],
-) -> Reply
-    requires { (k ≡ kind_of c) × (is_named k ≡ true) × (early ≡ first_of (early_lines c)) × LegalAt region.old slot.0 × DeskThere (table_in region.old) }
-    ensures { OnSetAtC region.old slot.0 k c given.now answer.old result region.new answer.new }
+fn answer_set(region: &mut [u8], slot: Slot, asked: Asked, given: &[u8], answer: &mut [u8]) -> Reply
+    requires { (is_named asked.kind ≡ true) × LegalAt region.old slot.0 × DeskThere (table_in region.old) }
+    ensures { OnSetAtC region.old slot.0 asked.kind asked.command given.now answer.old result region.new answer.new }
 {
     let r = region::load(region, slot);
-    let status = status_on(early, k, c, given.len(), answer.len(), r);
-    if status == 0 {
-        let new = change(region, slot, k, c, given, r);
-        let reply = hand_by(k, c, r, answer);
-        beside(reply, region::settle(region, new))
-    } else {
-        refuse(status)
+    match status_on(asked, given.len(), answer.len(), r) {
+        Ok(()) => {
+            let new = change(region, slot, asked.kind, asked.command, given, r);
+            let reply = hand_by(asked.kind, asked.command, r, answer);
+            beside(reply, region::settle(region, new))
+        }
+        Err(r) => refuse(r),
     }
 }
 
 // A command that names a set.
 fn answer_named(
     region: &mut [u8],
-    k: Kind,
-    c: Command,
-    early: u16,
+    id: SetId,
+    asked: Asked,
     given: &[u8],
     answer: &mut [u8],
 ) -> Reply
-    requires { (k ≡ kind_of c) × (is_named k ≡ true) × (early ≡ first_of (early_lines c)) }
-    ensures { (i : Item) → meaning i ≡ The (named_by k c) (named k c given.now (length answer.old)) → AnswerAtC region.old i answer.old result region.new answer.new }
+    requires { (is_named asked.kind ≡ true) × (id.0 ≡ named_by asked.kind asked.command) }
+    ensures { (i : Item) → meaning i ≡ The (named_by asked.kind asked.command) (named asked.kind asked.command given.now (length answer.old)) → AnswerAtC region.old i answer.old result region.new answer.new }
 {
-    let e = region::enter(region, named_by(k, c));
-    match e {
-        Entry::Bad => refuse(entry_no(unknown_status(early, c), e)),
-        Entry::Unknown => refuse(entry_no(unknown_status(early, c), e)),
-        Entry::Here(slot) => answer_set(region, slot, k, c, early, given, answer),
+    match found(region::enter(region, id), unknown_refusal(asked)) {
+        Ok(slot) => answer_set(region, slot, asked, given, answer),
+        Err(r) => refuse(r),
     }
 }
 
@@ -140,121 +124,106 @@ fn lift_if(region: &mut [u8], lifts: bool)
 }
 
 // Page 0Bh: with Retain 0 it lifts the mask and drops the flag. That sends no notice.
-fn answer_aggregate(
-    region: &mut [u8],
-    c: Command,
-    early: u16,
-    given: usize,
-    answer: &mut [u8],
-) -> Reply
-    requires { (Kind.ReadAggregate ≡ kind_of c) × (early ≡ first_of (early_lines c)) }
-    ensures { (i : Item) → meaning i ≡ Nobody (viewed Kind.ReadAggregate c given (length answer.old)) → AnswerAtC region.old i answer.old result region.new answer.new }
+fn answer_aggregate(region: &mut [u8], asked: Asked, given: usize, answer: &mut [u8]) -> Reply
+    requires { asked.kind ≡ Kind.ReadAggregate }
+    ensures { (i : Item) → meaning i ≡ Nobody (viewed Kind.ReadAggregate asked.command given (length answer.old)) → AnswerAtC region.old i answer.old result region.new answer.new }
 {
     if region::legal(region) {
-        let status = view_status(early, Kind::ReadAggregate, c, given, answer.len());
+        let c = asked.command;
+        let status = view_status(asked, given, answer.len());
         let page = aggregate_of(region);
         let from = offset_of(c) as usize;
         let n = needs_out(Kind::ReadAggregate, c) as usize;
         let reply = replies::hand_out(status, 0, &page, from, n, answer);
-        lift_if(region, (status == 0) & !retains(c));
+        lift_if(region, status.is_ok() & !retains(c));
         beside(reply, None)
     } else {
-        refuse(BAD_TABLE)
+        refuse(Refusal::BadTable)
     }
 }
 
 // Identify 04h: the whole page, written straight into the answer.
-fn answer_identify(region: &[u8], c: Command, early: u16, given: usize, answer: &mut [u8]) -> Reply
-    requires { (Kind.Identify ≡ kind_of c) × (early ≡ first_of (early_lines c)) }
-    ensures { (i : Item) → meaning i ≡ Nobody (viewed Kind.Identify c given (length answer.old)) → Answered (table_in region.now) i answer.old result (table_in region.now) answer.new }
+fn answer_identify(region: &[u8], asked: Asked, given: usize, answer: &mut [u8]) -> Reply
+    requires { asked.kind ≡ Kind.Identify }
+    ensures { (i : Item) → meaning i ≡ Nobody (viewed Kind.Identify asked.command given (length answer.old)) → Answered (table_in region.now) i answer.old result (table_in region.now) answer.new }
 {
     if region::legal(region) {
-        let status = view_status(early, Kind::Identify, c, given, answer.len());
-        if status == 0 {
-            set_list_onto(region, asked_by(c), answer);
-            give(0, IDENTIFY_SIZE)
-        } else {
-            refuse(status)
+        match view_status(asked, given, answer.len()) {
+            Ok(()) => {
+                set_list_onto(region, asked_by(asked.command), answer);
+                give(0, IDENTIFY_SIZE)
+            }
+            Err(r) => refuse(r),
         }
     } else {
-        refuse(BAD_TABLE)
+        refuse(Refusal::BadTable)
     }
 }
 
 // Asynchronous Event Request.
-fn answer_request(region: &mut [u8], c: Command, early: u16) -> Reply
-    requires { (Kind.EventRequest ≡ kind_of c) × (early ≡ first_of (early_lines c)) }
-    ensures { (i : Item) (given : ℕ) (before : List ℕ) → meaning i ≡ Nobody (viewed Kind.EventRequest c given (length before)) → AnswerAtC region.old i before result region.new before }
+fn answer_request(region: &mut [u8], asked: Asked) -> Reply
+    requires { asked.kind ≡ Kind.EventRequest }
+    ensures { (i : Item) (given : ℕ) (before : List ℕ) → meaning i ≡ Nobody (viewed Kind.EventRequest asked.command given (length before)) → AnswerAtC region.old i before result region.new before }
 {
     if region::legal(region) {
         let waiting = region::waiting_at(region);
-        let status = request_status(early, c, waiting);
-        if status == 0 {
-            beside(awaiting(), region::queue(region, identifier_of(c)))
-        } else {
-            refuse(status)
+        match request_status(asked, waiting) {
+            Ok(()) => beside(
+                awaiting(),
+                region::queue(region, identifier_of(asked.command)),
+            ),
+            Err(r) => refuse(r),
         }
     } else {
-        refuse(BAD_TABLE)
+        refuse(Refusal::BadTable)
     }
 }
 
 // Set Features 0Bh.
-fn answer_turn(region: &mut [u8], c: Command, early: u16, given: usize, room: usize) -> Reply
-    requires { (Kind.SetNotices ≡ kind_of c) × (early ≡ first_of (early_lines c)) }
-    ensures { (i : Item) (before : List ℕ) → length before ≡ room → meaning i ≡ Nobody (viewed Kind.SetNotices c given room) → AnswerAtC region.old i before result region.new before }
+fn answer_turn(region: &mut [u8], asked: Asked, given: usize, room: usize) -> Reply
+    requires { asked.kind ≡ Kind.SetNotices }
+    ensures { (i : Item) (before : List ℕ) → length before ≡ room → meaning i ≡ Nobody (viewed Kind.SetNotices asked.command given room) → AnswerAtC region.old i before result region.new before }
 {
     if region::legal(region) {
-        let status = view_status(early, Kind::SetNotices, c, given, room);
-        if status == 0 {
-            beside(done(), region::turn(region, turns_on(c)))
-        } else {
-            refuse(status)
+        match view_status(asked, given, room) {
+            Ok(()) => beside(done(), region::turn(region, turns_on(asked.command))),
+            Err(r) => refuse(r),
         }
     } else {
-        refuse(BAD_TABLE)
+        refuse(Refusal::BadTable)
     }
 }
 
 // Get Features 0Bh.
-fn answer_notices(region: &[u8], c: Command, early: u16, given: usize, room: usize) -> Reply
-    requires { (Kind.GetNotices ≡ kind_of c) × (early ≡ first_of (early_lines c)) }
-    ensures { (i : Item) (before : List ℕ) → length before ≡ room → meaning i ≡ Nobody (viewed Kind.GetNotices c given room) → Answered (table_in region.now) i before result (table_in region.now) before }
+fn answer_notices(region: &[u8], asked: Asked, given: usize, room: usize) -> Reply
+    requires { asked.kind ≡ Kind.GetNotices }
+    ensures { (i : Item) (before : List ℕ) → length before ≡ room → meaning i ≡ Nobody (viewed Kind.GetNotices asked.command given room) → Answered (table_in region.now) i before result (table_in region.now) before }
 {
     if region::legal(region) {
-        let status = view_status(early, Kind::GetNotices, c, given, room);
-        if status == 0 {
-            give(notices_no(region::on_at(region)), 0)
-        } else {
-            refuse(status)
+        match view_status(asked, given, room) {
+            Ok(()) => give(notices_no(region::on_at(region)), 0),
+            Err(r) => refuse(r),
         }
     } else {
-        refuse(BAD_TABLE)
+        refuse(Refusal::BadTable)
     }
 }
 
-fn answer_view(
-    region: &mut [u8],
-    k: Kind,
-    c: Command,
-    early: u16,
-    given: usize,
-    answer: &mut [u8],
-) -> Reply
-    requires { (k ≡ kind_of c) × (is_named k ≡ false) × (early ≡ first_of (early_lines c)) }
-    ensures { (i : Item) → meaning i ≡ Nobody (viewed k c given (length answer.old)) → AnswerAtC region.old i answer.old result region.new answer.new }
+fn answer_view(region: &mut [u8], asked: Asked, given: usize, answer: &mut [u8]) -> Reply
+    requires { is_named asked.kind ≡ false }
+    ensures { (i : Item) → meaning i ≡ Nobody (viewed asked.kind asked.command given (length answer.old)) → AnswerAtC region.old i answer.old result region.new answer.new }
 {
-    match k {
-        Kind::SetNotices => answer_turn(region, c, early, given, answer.len()),
+    match asked.kind {
+        Kind::SetNotices => answer_turn(region, asked, given, answer.len()),
         Kind::SetConfig => done(),
         Kind::SetWindow => done(),
-        Kind::GetNotices => answer_notices(region, c, early, given, answer.len()),
+        Kind::GetNotices => answer_notices(region, asked, given, answer.len()),
         Kind::GetConfig => done(),
         Kind::GetWindow => done(),
         Kind::ReadLatency => done(),
-        Kind::ReadAggregate => answer_aggregate(region, c, early, given, answer),
-        Kind::EventRequest => answer_request(region, c, early),
-        Kind::Identify => answer_identify(region, c, early, given, answer),
+        Kind::ReadAggregate => answer_aggregate(region, asked, given, answer),
+        Kind::EventRequest => answer_request(region, asked),
+        Kind::Identify => answer_identify(region, asked, given, answer),
     }
 }
 
@@ -262,12 +231,9 @@ fn answer_view(
 pub(crate) fn command(region: &mut [u8], bytes: &[u8], given: &[u8], answer: &mut [u8]) -> Reply
     ensures { AnswerAtC region.old (Item.command bytes.now given.now (length answer.old)) answer.old result region.new answer.new }
 {
-    let c = command_in(bytes);
-    let k = kind_of(c);
-    let early = early_status(k, c);
-    if is_named(k) {
-        answer_named(region, k, c, early, given, answer)
-    } else {
-        answer_view(region, k, c, early, given.len(), answer)
+    let asked = ask(command_in(bytes));
+    match named_by(asked.kind, asked.command) {
+        Some(id) => answer_named(region, id, asked, given, answer),
+        None => answer_view(region, asked, given.len(), answer),
     }
 }

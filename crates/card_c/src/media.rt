@@ -8,15 +8,13 @@ ghost use Rattle.steps.specs.Items.{Item, item_of};
 ghost use Rattle.by_value.specs.Ticks.{tick_one};
 ghost use Rattle.card_c.specs.InPlace.{RuledAt, AnswerAtC};
 
-use by_value::entry::entry_no;
+use by_value::entry::found;
 use record::event::{is_silent, newly_listed, settle};
 use record::legal::DAY_MS;
 use record::{Effect, Record, SetId, Slot};
 use region::{load, store_moved};
-use replies::numbers::{BAD_TABLE, TICK_TOO_LONG, UNKNOWN_SET};
-use replies::{Reply, beside, done, refuse};
+use replies::{Refusal, Reply, beside, done, refuse};
 use rules::{Media, excursion_event, read_event, tick_event, write_event};
-use table::Entry;
 
 // The record of a slot after an effect that leaves its configuration; the answer is whether its set was listed by it. Most effects note
 // nothing, and leave the notes' words alone.
@@ -86,11 +84,9 @@ fn event_at(region: &mut [u8], slot: Slot, m: Media) -> bool
 pub(crate) fn event(region: &mut [u8], id: u16, m: Media) -> Reply
     ensures { AnswerAtC region.old (item_of id m) [] result region.new [] }
 {
-    let e = region::enter(region, SetId(id));
-    match e {
-        Entry::Bad => refuse(entry_no(UNKNOWN_SET, e)),
-        Entry::Unknown => refuse(entry_no(UNKNOWN_SET, e)),
-        Entry::Here(slot) => {
+    match found(region::enter(region, SetId(id)), Refusal::UnknownSet) {
+        Err(r) => refuse(r),
+        Ok(slot) => {
             let new = event_at(region, slot, m);
             beside(done(), region::settle(region, new))
         }
@@ -117,12 +113,12 @@ pub(crate) fn ticks(region: &mut [u8], t: u32, answer: &[u8]) -> Reply
 {
     if region::legal(region) {
         if DAY_MS < t {
-            return refuse(TICK_TOO_LONG);
+            return refuse(Refusal::TickTooLong);
         }
         let n = region::count_of(region);
         let new = tick_all(region, n, t);
         beside(done(), region::settle(region, new))
     } else {
-        refuse(BAD_TABLE)
+        refuse(Refusal::BadTable)
     }
 }

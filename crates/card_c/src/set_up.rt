@@ -12,6 +12,7 @@ use by_value::set_up::{new_record, refusal};
 use octets::words::words_out;
 use pages::bodies::{BODY, attributes_in};
 use record::Slot;
+use replies::numbers::SUCCESS;
 use table::layout::LAYOUT;
 
 // The rows of n new sets.
@@ -33,12 +34,12 @@ fn write_rows(region: &mut [u8], bodies: &[u8], n: usize)
 pub(crate) fn set_up(region: &mut [u8], bodies: &[u8]) -> u16
     ensures { SetUpAtC bodies.now region.old region.new result }
 {
-    let status = refusal(bodies, region.len() / 8);
-    if status == 0 {
-        let n = bodies.len() / BODY;
-        let header = [LAYOUT, n as u64, 0, 0, 0, 0, 0, 0, 0, 0];
-        words_out(&header, region, 0);
-        write_rows(region, bodies, n);
+    if let Err(r) = refusal(bodies, region.len() / 8) {
+        return u16::from(r);
     }
-    status
+    let n = bodies.len() / BODY;
+    let header = [LAYOUT, n as u64, 0, 0, 0, 0, 0, 0, 0, 0];
+    words_out(&header, region, 0);
+    write_rows(region, bodies, n);
+    SUCCESS
 }

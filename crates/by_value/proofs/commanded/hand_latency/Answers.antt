@@ -1,9 +1,6 @@
-use Rattle.by_value.proofs.OnOneSet.{whole_latency, part_latency}
+use Rattle.by_value.proofs.OnOneSet.{whole_latency}
 use borrow.Author.Rules.{rules}
 use Rattle.by_value.proofs.commanded.hand_latency.Goals as goal
 
 pub returns-then-n-eq-LATENCY_SIZE : goal.returns-then-n-eq-LATENCY_SIZE
 returns-then-n-eq-LATENCY_SIZE c = rw c.give.ensures (whole_latency c.args.c c.args.r _ _ c.args.answer.now _ c.offset_of-from.ensures c.needs_out-n.ensures c.if-from-eq0.true c.if-n-eq-LATENCY_SIZE.true (search rules) c.latency_onto.ensures)
-
-pub returns : goal.returns
-returns c = part_latency c.args.c c.args.r _ _ _ c.args.answer.now _ _ c.offset_of-from.ensures c.needs_out-n.ensures c.latency_page-page.ensures c.hand_out.ensures

@@ -3,6 +3,7 @@ use native.Mathlib.Omega.{arith}
 use lib.ListN.{length}
 use Rattle.table.proofs.LegalTables.{legal_known, desk_there}
 use Rattle.commands.specs.declared.Kind.TheVariants.{ReadAggregate}
+use Rattle.replies.proofs.Refusals.{ok_is}
 use Rattle.by_value.proofs.Passed.{view_fine}
 use Rattle.by_value.proofs.NamedCommands.{answered_bad}
 use Rattle.by_value.proofs.Viewed.{unqueued, aggregate_read}
@@ -14,7 +15,8 @@ aggregate_of-page-requires c = legal_known _ (sym c.legal.ensures ∙ c.if-legal
 pub hand_out-reply-requires : goal.hand_out-reply-requires
 hand_out-reply-requires c =
     λ z.
-    let f = view_fine ReadAggregate c.args.c c.args.given (length c.args.answer.now) _ c.requires.0 c.view_status-status.ensures z in
+    let s = c.args in
+    let f = view_fine ReadAggregate s.asked.command s.given (length s.answer.now) _ (sym c.requires ∙ s.asked.is_kind) (rw c.requires at c.view_status-status.ensures) z in
     (omega (arith, f.start refl, c.offset_of-from.ensures), omega (arith, f.outward, c.needs_out-n.ensures))
 
 pub lift_if-requires : goal.lift_if-requires
@@ -22,11 +24,12 @@ lift_if-requires c = desk_there _ (legal_known _ (sym c.legal.ensures ∙ c.if-l
 
 pub returns-then-legal : goal.returns-then-legal
 returns-then-legal c =
+    let s = c.args in
     λ i m.
-    aggregate_read _ i c.args.c c.args.given c.args.answer.now m (sym c.legal.ensures ∙ c.if-legal.true) _
-    (unqueued ReadAggregate c.args.c c.args.given (length c.args.answer.now) c.args.table.now _ refl c.view_status-status.ensures) _ _ _ _ _
+    aggregate_read _ i s.asked.command s.given s.answer.now m (sym c.legal.ensures ∙ c.if-legal.true) _
+    (unqueued ReadAggregate s.asked.command s.given (length s.answer.now) s.table.now _ refl (rw c.requires at c.view_status-status.ensures)) _ _ _ _ _
     (rw (c.aggregate_of-page.ensures, c.offset_of-from.ensures, c.needs_out-n.ensures)) c.hand_out-reply.ensures
-    c.beside.ensures (rw c.retains.ensures at c.lift_if.ensures)
+    c.beside.ensures (rw (c.retains.ensures, c.is_ok.ensures.value ∙ ok_is c.view_status-status.result) at c.lift_if.ensures)
 
 pub returns-else-legal : goal.returns-else-legal
 returns-else-legal c = λ i m. answered_bad _ i _ _ (sym c.legal.ensures ∙ c.if-legal.false) c.refuse.ensures

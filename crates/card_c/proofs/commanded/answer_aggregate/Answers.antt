@@ -5,6 +5,7 @@ use lib.ListN.{length}
 use Rattle.table.proofs.LegalTables.{legal_known, desk_there}
 use Rattle.region.specs.Region.{table_in}
 use Rattle.commands.specs.declared.Kind.TheVariants.{ReadAggregate}
+use Rattle.replies.proofs.Refusals.{ok_is}
 use Rattle.by_value.proofs.Passed.{view_fine}
 use Rattle.by_value.proofs.NamedCommands.{answered_bad}
 use Rattle.by_value.proofs.Viewed.{unqueued}
@@ -15,7 +16,7 @@ pub aggregate_of-page-requires : goal.aggregate_of-page-requires
 aggregate_of-page-requires c = legal_known _ (sym c.legal.ensures ∙ c.if-legal.true)
 
 pub hand_out-reply-requires : goal.hand_out-reply-requires
-hand_out-reply-requires c = let s = c.args in λ z. let f = view_fine ReadAggregate s.c s.given (length s.answer.now) _ c.requires.0 c.view_status-status.ensures z in (omega (arith, f.start refl, c.offset_of-from.ensures), omega (arith, f.outward, c.needs_out-n.ensures))
+hand_out-reply-requires c = let s = c.args in λ z. let f = view_fine ReadAggregate s.asked.command s.given (length s.answer.now) _ (sym c.requires ∙ s.asked.is_kind) (rw c.requires at c.view_status-status.ensures) z in (omega (arith, f.start refl, c.offset_of-from.ensures), omega (arith, f.outward, c.needs_out-n.ensures))
 
 pub lift_if-requires : goal.lift_if-requires
 lift_if-requires c = desk_there _ (legal_known _ (sym c.legal.ensures ∙ c.if-legal.true))
@@ -23,9 +24,9 @@ lift_if-requires c = desk_there _ (legal_known _ (sym c.legal.ensures ∙ c.if-l
 pub returns-then-legal : goal.returns-then-legal
 returns-then-legal c =
     let s = c.args in let b = s.region.now in
-    λ i m. aggregate_out b i s.c s.given s.answer.now m (sym c.legal.ensures ∙ c.if-legal.true) _
-    (unqueued ReadAggregate s.c s.given (length s.answer.now) (table_in b) _ refl c.view_status-status.ensures) _ _ _ _ _
-    (rw (c.aggregate_of-page.ensures, c.offset_of-from.ensures, c.needs_out-n.ensures)) c.hand_out-reply.ensures c.beside.ensures (λ (i : ℕ). (c.slice_known-1.given i).fits) (rw c.retains.ensures at c.lift_if.ensures)
+    λ i m. aggregate_out b i s.asked.command s.given s.answer.now m (sym c.legal.ensures ∙ c.if-legal.true) _
+    (unqueued ReadAggregate s.asked.command s.given (length s.answer.now) (table_in b) _ refl (rw c.requires at c.view_status-status.ensures)) _ _ _ _ _
+    (rw (c.aggregate_of-page.ensures, c.offset_of-from.ensures, c.needs_out-n.ensures)) c.hand_out-reply.ensures c.beside.ensures (λ (i : ℕ). (c.slice_known-1.given i).fits) (rw (c.retains.ensures, c.is_ok.ensures.value ∙ ok_is c.view_status-status.result) at c.lift_if.ensures)
 
 pub returns-else-legal : goal.returns-else-legal
 returns-else-legal c = let s = c.args in λ i m. answer_same s.region.now i s.answer.now _ _ (λ (i : ℕ). (c.slice_known-1.given i).fits) (answered_bad _ i _ _ (sym c.legal.ensures ∙ c.if-legal.false) c.refuse.ensures)

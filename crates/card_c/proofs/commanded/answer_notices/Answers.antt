@@ -2,6 +2,7 @@ use mathlib.Core.Path.{refl, sym, ◌∙◌}
 use Rattle.table.proofs.LegalTables.{legal_known, desk_there}
 use Rattle.region.specs.Region.{table_in}
 use Rattle.commands.specs.declared.Kind.TheVariants.{GetNotices}
+use Rattle.replies.proofs.Refusals.{no_success}
 use Rattle.by_value.proofs.NamedCommands.{answered_bad}
 use Rattle.by_value.proofs.Viewed.{unqueued, viewed_refused, notices_read}
 use Rattle.card_c.proofs.commanded.answer_notices.Goals as goal
@@ -9,11 +10,11 @@ use Rattle.card_c.proofs.commanded.answer_notices.Goals as goal
 pub on_at-requires : goal.on_at-requires
 on_at-requires c = desk_there _ (legal_known _ (sym c.legal.ensures ∙ c.if-legal.true))
 
-pub returns-then-status-eq0 : goal.returns-then-status-eq0
-returns-then-status-eq0 c = let s = c.args in λ i before l m. notices_read _ i s.c s.given before (rw l m) (sym c.legal.ensures ∙ c.if-legal.true) _ (rw l (unqueued GetNotices s.c s.given s.room (table_in s.region.now) _ refl c.view_status-status.ensures)) _ _ _ c.if-status-eq0.true c.on_at.ensures c.notices_no.ensures c.give.ensures
+pub returns-in-Ok : goal.returns-in-Ok
+returns-in-Ok c = let s = c.args in let e = rw (c.requires, c.in-Ok.is) at c.view_status.ensures in λ i before l m. notices_read _ i s.asked.command s.given before (rw l m) (sym c.legal.ensures ∙ c.if-legal.true) _ (rw l (unqueued GetNotices s.asked.command s.given s.room (table_in s.region.now) _ refl e)) _ _ _ refl c.on_at.ensures c.notices_no.ensures c.give.ensures
 
-pub returns-else-status-eq0 : goal.returns-else-status-eq0
-returns-else-status-eq0 c = let s = c.args in λ i before l m. viewed_refused _ i GetNotices s.c s.given before (rw l m) (sym c.legal.ensures ∙ c.if-legal.true) _ (rw l (unqueued GetNotices s.c s.given s.room (table_in s.region.now) _ refl c.view_status-status.ensures)) _ c.if-status-eq0.false c.refuse.ensures
+pub returns-in-Err : goal.returns-in-Err
+returns-in-Err c = let s = c.args in let e = rw (c.requires, c.in-Err.is) at c.view_status.ensures in λ i before l m. viewed_refused _ i GetNotices s.asked.command s.given before (rw l m) (sym c.legal.ensures ∙ c.if-legal.true) _ (rw l (unqueued GetNotices s.asked.command s.given s.room (table_in s.region.now) _ refl e)) _ (no_success c.in-Err.r) c.refuse.ensures
 
 pub returns-else-legal : goal.returns-else-legal
 returns-else-legal c = λ i before l m. answered_bad _ i _ _ (sym c.legal.ensures ∙ c.if-legal.false) c.refuse-else-legal.ensures

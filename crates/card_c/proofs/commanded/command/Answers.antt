@@ -1,15 +1,25 @@
-use mathlib.Core.Path.{sym, ◌∙◌}
 use lib.ListN.{length}
+use mathlib.Core.Path.{◌∙◌}
 use Rattle.steps.specs.Items.{command}
 use Rattle.by_value.proofs.Viewed.{is_named_lem, is_viewed}
 use Rattle.card_c.proofs.commanded.command.Goals as goal
 
-pub returns-then-is_named : goal.returns-then-is_named
-returns-then-is_named c =
-    let s = c.args in c.answer_named.ensures (command s.bytes.now s.given.now (length s.answer.now))
-    (is_named_lem s.bytes.now s.given.now (length s.answer.now) _ _ c.command_in-c.ensures c.kind_of-k.ensures (sym c.is_named.ensures ∙ c.if-is_named.true))
+pub answer_named-requires : goal.answer_named-requires
+answer_named-requires c = c.in-Some.ensures
 
-pub returns-else-is_named : goal.returns-else-is_named
-returns-else-is_named c =
-    let s = c.args in c.answer_view.ensures (command s.bytes.now s.given.now (length s.answer.now))
-    (is_viewed s.bytes.now s.given.now (length s.answer.now) _ _ c.command_in-c.ensures c.kind_of-k.ensures (sym c.is_named.ensures ∙ c.if-is_named.false))
+pub answer_view-requires : goal.answer_view-requires
+answer_view-requires c = c.in-None.ensures
+
+pub returns-in-Some : goal.returns-in-Some
+returns-in-Some c =
+    let s = c.args in
+    let a = c.ask-asked.result in
+    c.answer_named.ensures (command s.bytes.now s.given.now (length s.answer.now))
+    (is_named_lem s.bytes.now s.given.now (length s.answer.now) a.command a.kind (c.ask-asked.ensures ∙ c.command_in.ensures) a.is_kind c.in-Some.ensures.0)
+
+pub returns-in-None : goal.returns-in-None
+returns-in-None c =
+    let s = c.args in
+    let a = c.ask-asked.result in
+    c.answer_view.ensures (command s.bytes.now s.given.now (length s.answer.now))
+    (is_viewed s.bytes.now s.given.now (length s.answer.now) a.command a.kind (c.ask-asked.ensures ∙ c.command_in.ensures) a.is_kind c.in-None.ensures)
