@@ -5,7 +5,8 @@ ghost use Rattle.by_reference.specs.Records.{lent_status, lent_after, ChargedInP
 use by_value::media::after_event;
 use record::Record;
 use record::legal::record_legal;
-use replies::numbers::{BAD_TABLE, SUCCESS};
+use replies::Refusal;
+use replies::numbers::SUCCESS;
 use rules::Media;
 
 // A record after an event, and the status number.
@@ -18,7 +19,11 @@ pub struct Charged {
 fn status_of(r: Record) -> u16
     ensures { result ≡ lent_status r }
 {
-    if record_legal(r) { SUCCESS } else { BAD_TABLE }
+    if record_legal(r) {
+        SUCCESS
+    } else {
+        u16::from(Refusal::BadTable)
+    }
 }
 
 // The rule, by value.

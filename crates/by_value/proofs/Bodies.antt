@@ -42,9 +42,6 @@ abbrev pub legal_from : ℕ → List Attributes → Bool
 legal_from before list = legal_sets before (map new_record list)
 
 module _ (bytes : List ℕ) (n i at before : ℕ) (goal : Bool) (inv : legal_from before (attributes_from bytes at (n - i)) ≡ goal) where
-  pub legal_end : n ≤ i → true ≡ goal
-  legal_end h = rw (bodies_none bytes n i at h) at inv
-
   module _ (s : Bool) (h : i < n) (es : s ≡ follows_of before (attributes_in bytes at)) where
     turn : s && legal_from (attributes_in bytes at).id.0 (attributes_from bytes (at + body_size) (n - (i + 1))) ≡ goal
     turn = rw (es, ← new_legal (attributes_in bytes at)) (rw (bodies_more bytes n i at h) at inv)

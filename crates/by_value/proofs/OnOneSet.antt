@@ -14,7 +14,7 @@ use Rattle.record.specs.declared.Record.{Record}
 use Rattle.record.specs.Event.{newly_listed}
 use Rattle.replies.specs.Answers.{Notice}
 use Rattle.replies.specs.declared.Reply.{Reply}
-use Rattle.replies.specs.Answers.{Answer, answered, refused, refusing, giving, beside_of, Replied}
+use Rattle.replies.specs.Answers.{Answer, refused, refusing, giving, beside_of, Replied}
 use Rattle.replies.proofs.Answering.{granting, refused_reply, with_notice}
 use Rattle.desk.specs.Desk.{settle}
 use Rattle.table.specs.Layout.{words_of, record_of}
@@ -48,13 +48,6 @@ whole_latency c r from n before after ef en zf zn h ea =
     let l : length (latency_page r) ≡ latency_size = latency_long r in
     let p : padded (latency_page r) (offset c) (needs_out ReadLatency c) ≡ latency_page r = rw (← ef, ← en, zf, zn) (padded_whole (latency_page r) latency_size l) in
     rw p (granting n 0 (latency_page r) before after (zn ∙ sym l) h ea)
-
--- a part of 0Ah, as `hand_out` gives it
-pub part_latency : (c : Command) (r : Record) (from n : ℕ) (page before after : List ℕ) (x : Reply) → from ≡ offset c → n ≡ needs_out ReadLatency c → page ≡ latency_page r
-    → Replied (answered 0 0 (padded page from n)) before x after → Replied (answer_of ReadLatency c r) before x after
-part_latency c r from n page before after x ef en ep h =
-    let q : answered 0 0 (padded page from n) ≡ answer_of ReadLatency c r = rw (ef, en, ep) in
-    subst (λ (a : Answer). Replied a before x after) q h
 
 pub fine_on : (k : Kind) (c : Command) (given room : ℕ) (r : Record) (s : ℕ) → k ≡ kind_of c → s ≡ status_on k c given room r → s ≡ 0 → Fine k c given room
 unfolding status_on

@@ -2,17 +2,17 @@
 ghost use Rattle.std.specs.Prelude.{◌≡◌, true, List, ℕ, ◌≤◌, length, if◌then◌else◌};
 ghost use Rattle.record.specs.Event.{settled};
 ghost use Rattle.record.specs.Windows.{window_no};
-ghost use Rattle.replies.specs.Status.{first_of};
+ghost use Rattle.replies.specs.Status.{status_no};
 ghost use Rattle.replies.specs.Answers.{Replied};
 ghost use Rattle.rules.specs.Rules.{still, clearing_read, configure, selecting};
 ghost use Rattle.pages.specs.Features.{feature_size, config_in};
 ghost use Rattle.commands.specs.declared.Kind.{Kind};
 ghost use Rattle.commands.specs.Commands.{enable, cause_by, window_cause, retain, offset};
 ghost use Rattle.commands.specs.Shapes.{shape_of, is_named, needs_in, needs_out};
-ghost use Rattle.commands.specs.StatusTable.{early_lines};
 ghost use Rattle.steps.specs.Commanded.{notices_no, mode_no, answer_of};
 ghost use Rattle.by_value.specs.OnSet.{status_on, after_on};
 
+use commands::asked::Asked;
 use commands::shapes::needs_out;
 use commands::status_table::found_status;
 use commands::{Command, Kind, enables, offset_of, retains, selects_d};
@@ -20,18 +20,16 @@ use pages::features::{FEATURE_SIZE, config_in, config_onto};
 use pages::latency::{LATENCY_SIZE, latency_onto};
 use record::event::settle;
 use record::{Attributes, Effect, Record, State, Window};
-use replies::{Reply, done, give};
+use replies::{Refusal, Reply, done, give};
 use rules::{Cause, clearing_read, go_to_selected, keep_still, set_mode};
 
 // Bit 12 of feature 0Bh.
 const NOTICES_BIT: u32 = 0x1000;
 
-pub fn status_on(early: u16, k: Kind, c: Command, given: usize, room: usize, r: Record) -> u16
-    requires { early ≡ first_of (early_lines c) }
-    ensures { result ≡ status_on k c given room r }
+pub fn status_on(asked: Asked, given: usize, room: usize, r: Record) -> Result<(), Refusal>
+    ensures { status_no result ≡ status_on asked.kind asked.command given room r }
 {
-    let s = r.state;
-    found_status(early, k, c, given, room, s)
+    found_status(asked, given, room, r.state)
 }
 
 // ---- the record after each command that changes one
@@ -40,9 +38,10 @@ pub fn after_config(r: Record, c: Command, given: &[u8]) -> Record
     requires { feature_size ≤ length given.now }
     ensures { result ≡ settled r (configure (enable c) (config_in given.now) r.attributes r.state) }
 {
-    let a = r.attributes;
-    let s = r.state;
-    settle(r, set_mode(a, s, enables(c), config_in(given)))
+    settle(
+        r,
+        set_mode(r.attributes, r.state, enables(c), config_in(given)),
+    )
 }
 
 // That each cause stands in the code lets the compiler read the table's columns ahead.
@@ -59,33 +58,30 @@ fn select_by(a: Attributes, s: State, d: bool) -> Effect
 pub fn after_window(r: Record, c: Command) -> Record
     ensures { result ≡ settled r (selecting (window_cause c) r.attributes r.state) }
 {
-    let a = r.attributes;
-    let s = r.state;
-    settle(r, select_by(a, s, selects_d(c)))
+    settle(r, select_by(r.attributes, r.state, selects_d(c)))
 }
 
 // A read of page 0Ah with Retain 0.
 pub fn after_clearing(r: Record) -> Record
     ensures { result ≡ settled r (clearing_read r.state) }
 {
-    let s = r.state;
-    settle(r, clearing_read(s))
+    settle(r, clearing_read(r.state))
 }
 
 fn after_still(r: Record) -> Record
     ensures { result ≡ settled r (still r.state) }
 {
-    let s = r.state;
-    settle(r, keep_still(s))
+    settle(r, keep_still(r.state))
 }
 
 fn after_read(r: Record, c: Command) -> Record
     ensures { result ≡ settled r (if retain c then still r.state else clearing_read r.state) }
 {
     if retains(c) {
-        return after_still(r);
+        after_still(r)
+    } else {
+        after_clearing(r)
     }
-    after_clearing(r)
 }
 
 // The record after any command that is carried out. Only Set Features 13h looks at the data in.
@@ -94,16 +90,10 @@ pub fn after_command(r: Record, k: Kind, c: Command, given: &[u8]) -> Record
     ensures { result ≡ after_on k c given.now r }
 {
     match k {
-        Kind::SetNotices => after_still(r),
         Kind::SetConfig => after_config(r, c, given),
         Kind::SetWindow => after_window(r, c),
-        Kind::GetNotices => after_still(r),
-        Kind::GetConfig => after_still(r),
-        Kind::GetWindow => after_still(r),
         Kind::ReadLatency => after_read(r, c),
-        Kind::ReadAggregate => after_still(r),
-        Kind::EventRequest => after_still(r),
-        Kind::Identify => after_still(r),
+        _ => after_still(r),
     }
 }
 
@@ -112,11 +102,9 @@ pub fn after_command(r: Record, k: Kind, c: Command, given: &[u8]) -> Record
 fn mode_no(s: State) -> u32
     ensures { result ≡ mode_no s }
 {
-    let w = s.window;
-    match w {
+    match s.window {
         Window::Off => 0,
-        Window::D => 1,
-        Window::N => 1,
+        Window::D | Window::N => 1,
     }
 }
 
@@ -131,8 +119,7 @@ fn hand_config(r: Record, answer: &mut [u8]) -> Reply
     ensures { (c : Command) → Replied (answer_of Kind.GetConfig c r) answer.old result answer.new }
 {
     let s = r.state;
-    let config = s.config;
-    config_onto(config, answer);
+    config_onto(s.config, answer);
     give(mode_no(s), FEATURE_SIZE)
 }
 
@@ -143,22 +130,19 @@ fn hand_latency(r: Record, c: Command, answer: &mut [u8]) -> Reply
 {
     let from = offset_of(c) as usize;
     let n = needs_out(Kind::ReadLatency, c) as usize;
-    if from == 0 {
-        if n == LATENCY_SIZE {
-            latency_onto(r, answer);
-            return give(0, n);
-        }
+    if from == 0 && n == LATENCY_SIZE {
+        latency_onto(r, answer);
+        return give(0, n);
     }
     let mut page = [0u8; LATENCY_SIZE];
     latency_onto(r, &mut page);
-    replies::hand_out(0, 0, &page, from, n, answer)
+    replies::hand_out(Ok(()), 0, &page, from, n, answer)
 }
 
 fn hand_window(r: Record) -> Reply
     ensures { (c : Command) (before : List ℕ) → Replied (answer_of Kind.GetWindow c r) before result before }
 {
-    let s = r.state;
-    give(window_word(s), 0)
+    give(window_word(r.state), 0)
 }
 
 pub fn hand_by(k: Kind, c: Command, r: Record, answer: &mut [u8]) -> Reply
@@ -166,16 +150,10 @@ pub fn hand_by(k: Kind, c: Command, r: Record, answer: &mut [u8]) -> Reply
     ensures { Replied (answer_of k c r) answer.old result answer.new }
 {
     match k {
-        Kind::SetNotices => done(),
-        Kind::SetConfig => done(),
-        Kind::SetWindow => done(),
-        Kind::GetNotices => done(),
         Kind::GetConfig => hand_config(r, answer),
         Kind::GetWindow => hand_window(r),
         Kind::ReadLatency => hand_latency(r, c, answer),
-        Kind::ReadAggregate => done(),
-        Kind::EventRequest => done(),
-        Kind::Identify => done(),
+        _ => done(),
     }
 }
 

@@ -12,17 +12,11 @@ use rules::{Media, media_event, tick_event};
 pub fn after_event(r: Record, m: Media) -> Record
     ensures { result ≡ settled r (media_rule m r.attributes r.state) }
 {
-    let a = r.attributes;
-    let s = r.state;
-    let e = media_event(a, s, m);
-    settle(r, e)
+    settle(r, media_event(r.attributes, r.state, m))
 }
 
 pub fn after_tick(r: Record, t: u32) -> Record
     ensures { result ≡ tick_one t r }
 {
-    let a = r.attributes;
-    let s = r.state;
-    let e = tick_event(a, s, t);
-    settle(r, e)
+    settle(r, tick_event(r.attributes, r.state, t))
 }

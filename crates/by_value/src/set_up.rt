@@ -1,5 +1,6 @@
 // The record of a new set, and what set-up refuses.
 ghost use Rattle.std.specs.Prelude.{◌≡◌, map, ◌+◌, ◌*◌, ◌≤◌, length};
+ghost use Rattle.replies.specs.Status.{status_no};
 ghost use Rattle.table.specs.Table.{legal_sets};
 ghost use Rattle.pages.specs.Bodies.{body_size, attributes_in};
 ghost use Rattle.steps.specs.SetUp.{new_state, new_record, attributes_from, set_up_status};
@@ -8,7 +9,7 @@ ghost use Rattle.by_value.specs.SetUp.{follows_of};
 use pages::bodies::{BODY, body_id, body_legal};
 use record::parts::{config_of, state_of};
 use record::{Attributes, Events, Notes, Record, Recovery, Spent, State, Window};
-use replies::numbers::{BAD_SET_UP, TOO_SHORT};
+use replies::Refusal;
 use table::MAX_SETS;
 use table::layout::{HEADER, ROW};
 
@@ -22,15 +23,13 @@ fn new_state() -> State
 pub fn new_record(a: Attributes) -> Record
     ensures { result ≡ new_record a }
 {
-    let state = new_state();
-    let notes = Notes {
-        events: Events::NONE,
-        listed: false,
-    };
     Record {
         attributes: a,
-        state: state,
-        notes: notes,
+        state: new_state(),
+        notes: Notes {
+            events: Events::NONE,
+            listed: false,
+        },
     }
 }
 
@@ -39,8 +38,7 @@ fn follows(before: u64, bytes: &[u8], at: usize) -> bool
     requires { at + body_size ≤ length bytes.now }
     ensures { result ≡ follows_of before (attributes_in bytes.now at) }
 {
-    let legal = body_legal(bytes, at);
-    legal & (before < body_id(bytes, at))
+    body_legal(bytes, at) & (before < body_id(bytes, at))
 }
 
 fn bodies_legal(bytes: &[u8], n: usize) -> bool
@@ -48,30 +46,25 @@ fn bodies_legal(bytes: &[u8], n: usize) -> bool
     ensures { result ≡ legal_sets 0 (map new_record (attributes_from bytes.now 0 n)) }
 {
     let mut before = 0;
-    let mut at = 0;
-    let mut i = 0;
-    while i < n {
-        if follows(before, bytes, at) {
-            before = body_id(bytes, at);
-        } else {
+    for i in 0..n {
+        let at = i * BODY;
+        if !follows(before, bytes, at) {
             return false;
         }
-        at += BODY;
-        i += 1;
+        before = body_id(bytes, at);
     }
     true
 }
 
-pub fn refusal(bytes: &[u8], words: usize) -> u16
-    ensures { result ≡ set_up_status bytes.now words }
+pub fn refusal(bytes: &[u8], words: usize) -> Result<(), Refusal>
+    ensures { status_no result ≡ set_up_status bytes.now words }
 {
     let n = bytes.len() / BODY;
     let legal = bodies_legal(bytes, n);
-    let tests = [
-        !((1 <= n) & (n <= MAX_SETS)),
-        !(bytes.len() % BODY == 0),
-        !legal,
-        words < HEADER + n * ROW,
-    ];
-    replies::first(&tests, &[BAD_SET_UP, BAD_SET_UP, BAD_SET_UP, TOO_SHORT])
+    replies::first(&[
+        (!((1 <= n) & (n <= MAX_SETS)), Refusal::BadSetUp),
+        (!(bytes.len() % BODY == 0), Refusal::BadSetUp),
+        (!legal, Refusal::BadSetUp),
+        (words < HEADER + n * ROW, Refusal::TooShort),
+    ])
 }

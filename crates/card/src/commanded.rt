@@ -1,14 +1,12 @@
 // What a command does and answers, from its 64 bytes.
 ghost use Rattle.std.specs.Prelude.{◌≡◌, true, false, List, ℕ, ◌≤◌, length, if◌then◌else◌};
-ghost use Rattle.replies.specs.Status.{first_of};
 ghost use Rattle.replies.specs.Answers.{told_no, to_no};
 ghost use Rattle.pages.specs.Features.{feature_size};
 ghost use Rattle.desk.specs.Desk.{lifted};
 ghost use Rattle.table.specs.Layout.{record_of};
 ghost use Rattle.table.specs.Table.{row, desk_at, with_desk, DeskThere};
 ghost use Rattle.commands.specs.declared.Kind.{Kind};
-ghost use Rattle.commands.specs.Shapes.{kind_of, is_named, named_by, needs_in};
-ghost use Rattle.commands.specs.StatusTable.{early_lines};
+ghost use Rattle.commands.specs.Shapes.{is_named, named_by, needs_in};
 ghost use Rattle.steps.specs.Items.{Item, Nobody, The};
 ghost use Rattle.steps.specs.Commanded.{named, viewed};
 ghost use Rattle.steps.specs.Meanings.{meaning};
@@ -20,19 +18,17 @@ use crate::views::{aggregate_of, set_list_onto};
 use by_value::commanded::{
     after_clearing, after_config, after_window, hand_by, notices_no, status_on,
 };
-use by_value::entry::entry_no;
-use commands::shapes::{is_named, kind_of, named_by, needs_out};
-use commands::status_table::{early_status, request_status, unknown_status, view_status};
+use by_value::entry::refusal_of;
+use commands::asked::{Asked, ask};
+use commands::shapes::{named_by, needs_out};
+use commands::status_table::{request_status, unknown_refusal, view_status};
 use commands::{Command, Kind, asked_by, command_in, identifier_of, offset_of, retains, turns_on};
 use octets::cells::Cell;
 use pages::identify::IDENTIFY_SIZE;
 use record::event::newly_listed;
-use record::{Record, Slot};
-use replies::numbers::BAD_TABLE;
-use replies::{Reply, awaiting, beside, done, give, refuse};
+use record::{Record, SetId, Slot};
+use replies::{Refusal, Reply, awaiting, beside, done, give, refuse};
 use table::{enter, legal, lift, load, on_at, queue, settle, store, store_moved, turn, waiting_at};
-
-// `early` is the number of the first row before the look-up that holds, or 0: it is asked once.
 
 // Each of these answers whether the set was listed by it.
 
@@ -100,43 +96,40 @@ fn change<C: Cell>(
 fn answer_set<C: Cell>(
     table: &mut [C],
     slot: Slot,
-    k: Kind,
-    c: Command,
-    early: u16,
+    asked: Asked,
     given: &[u8],
     answer: &mut [u8],
 ) -> Reply
-    requires { (k ≡ kind_of c) × (is_named k ≡ true) × (early ≡ first_of (early_lines c)) × LegalAt (C.words table.old) slot.0 × DeskThere (C.words table.old) }
-    ensures on { OnSet (C.words table.old) slot.0 k c given.now answer.old result (C.words table.new) answer.new }
+    requires { (is_named asked.kind ≡ true) × LegalAt (C.words table.old) slot.0 × DeskThere (C.words table.old) }
+    ensures on { OnSet (C.words table.old) slot.0 asked.kind asked.command given.now answer.old result (C.words table.new) answer.new }
     ensures rest { C.rest table.new ≡ C.rest table.old }
 {
     let r = load(table, slot);
-    let status = status_on(early, k, c, given.len(), answer.len(), r);
-    if status == 0 {
-        let new = change(table, slot, k, c, given, r);
-        let reply = hand_by(k, c, r, answer);
-        beside(reply, settle(table, new))
-    } else {
-        refuse(status)
+    match status_on(asked, given.len(), answer.len(), r) {
+        Ok(()) => {
+            let new = change(table, slot, asked.kind, asked.command, given, r);
+            let reply = hand_by(asked.kind, asked.command, r, answer);
+            beside(reply, settle(table, new))
+        }
+        Err(refusal) => refuse(refusal),
     }
 }
 
 // A command that names a set.
 fn answer_named<C: Cell>(
     table: &mut [C],
-    k: Kind,
-    c: Command,
-    early: u16,
+    id: SetId,
+    asked: Asked,
     given: &[u8],
     answer: &mut [u8],
 ) -> Reply
-    requires { (k ≡ kind_of c) × (is_named k ≡ true) × (early ≡ first_of (early_lines c)) }
-    ensures answered { (i : Item) → meaning i ≡ The (named_by k c) (named k c given.now (length answer.old)) → Answered (C.words table.old) i answer.old result (C.words table.new) answer.new }
+    requires { (is_named asked.kind ≡ true) × (id.0 ≡ named_by asked.kind asked.command) }
+    ensures answered { (i : Item) → meaning i ≡ The (named_by asked.kind asked.command) (named asked.kind asked.command given.now (length answer.old)) → Answered (C.words table.old) i answer.old result (C.words table.new) answer.new }
     ensures rest { C.rest table.new ≡ C.rest table.old }
 {
-    match enter(table, named_by(k, c)) {
-        Err(absent) => refuse(entry_no(unknown_status(early, c), absent)),
-        Ok(slot) => answer_set(table, slot, k, c, early, given, answer),
+    match enter(table, id) {
+        Err(absent) => refuse(refusal_of(absent, unknown_refusal(asked))),
+        Ok(slot) => answer_set(table, slot, asked, given, answer),
     }
 }
 
@@ -155,124 +148,105 @@ fn lift_if<C: Cell>(table: &mut [C], lifts: bool)
 // Page 0Bh: with Retain 0 it lifts the mask and drops the flag. That sends no notice.
 fn answer_aggregate<C: Cell>(
     table: &mut [C],
-    c: Command,
-    early: u16,
+    asked: Asked,
     given: usize,
     answer: &mut [u8],
 ) -> Reply
-    requires { (Kind.ReadAggregate ≡ kind_of c) × (early ≡ first_of (early_lines c)) }
-    ensures answered { (i : Item) → meaning i ≡ Nobody (viewed Kind.ReadAggregate c given (length answer.old)) → Answered (C.words table.old) i answer.old result (C.words table.new) answer.new }
+    requires { asked.kind ≡ Kind.ReadAggregate }
+    ensures answered { (i : Item) → meaning i ≡ Nobody (viewed Kind.ReadAggregate asked.command given (length answer.old)) → Answered (C.words table.old) i answer.old result (C.words table.new) answer.new }
     ensures rest { C.rest table.new ≡ C.rest table.old }
 {
     if legal(table) {
-        let status = view_status(early, Kind::ReadAggregate, c, given, answer.len());
+        let c = asked.command;
+        let status = view_status(asked, given, answer.len());
         let page = aggregate_of(table);
         let from = offset_of(c) as usize;
         let n = needs_out(Kind::ReadAggregate, c) as usize;
         let reply = replies::hand_out(status, 0, &page, from, n, answer);
-        lift_if(table, (status == 0) & !retains(c));
+        lift_if(table, status.is_ok() & !retains(c));
         beside(reply, None)
     } else {
-        refuse(BAD_TABLE)
+        refuse(Refusal::BadTable)
     }
 }
 
 // Identify 04h: the whole page, written straight into the answer.
-fn answer_identify<C: Cell>(
-    table: &[C],
-    c: Command,
-    early: u16,
-    given: usize,
-    answer: &mut [u8],
-) -> Reply
-    requires { (Kind.Identify ≡ kind_of c) × (early ≡ first_of (early_lines c)) }
-    ensures { (i : Item) → meaning i ≡ Nobody (viewed Kind.Identify c given (length answer.old)) → Answered (C.words table.now) i answer.old result (C.words table.now) answer.new }
+fn answer_identify<C: Cell>(table: &[C], asked: Asked, given: usize, answer: &mut [u8]) -> Reply
+    requires { asked.kind ≡ Kind.Identify }
+    ensures { (i : Item) → meaning i ≡ Nobody (viewed Kind.Identify asked.command given (length answer.old)) → Answered (C.words table.now) i answer.old result (C.words table.now) answer.new }
 {
     if legal(table) {
-        let status = view_status(early, Kind::Identify, c, given, answer.len());
-        if status == 0 {
-            set_list_onto(table, asked_by(c), answer);
-            give(0, IDENTIFY_SIZE)
-        } else {
-            refuse(status)
+        match view_status(asked, given, answer.len()) {
+            Ok(()) => {
+                set_list_onto(table, asked_by(asked.command), answer);
+                give(0, IDENTIFY_SIZE)
+            }
+            Err(refusal) => refuse(refusal),
         }
     } else {
-        refuse(BAD_TABLE)
+        refuse(Refusal::BadTable)
     }
 }
 
 // Asynchronous Event Request.
-fn answer_request<C: Cell>(table: &mut [C], c: Command, early: u16) -> Reply
-    requires { (Kind.EventRequest ≡ kind_of c) × (early ≡ first_of (early_lines c)) }
-    ensures answered { (i : Item) (given : ℕ) (before : List ℕ) → meaning i ≡ Nobody (viewed Kind.EventRequest c given (length before)) → Answered (C.words table.old) i before result (C.words table.new) before }
+fn answer_request<C: Cell>(table: &mut [C], asked: Asked) -> Reply
+    requires { asked.kind ≡ Kind.EventRequest }
+    ensures answered { (i : Item) (given : ℕ) (before : List ℕ) → meaning i ≡ Nobody (viewed Kind.EventRequest asked.command given (length before)) → Answered (C.words table.old) i before result (C.words table.new) before }
     ensures rest { C.rest table.new ≡ C.rest table.old }
 {
     if legal(table) {
         let waiting = waiting_at(table);
-        let status = request_status(early, c, waiting);
-        if status == 0 {
-            beside(awaiting(), queue(table, identifier_of(c)))
-        } else {
-            refuse(status)
+        match request_status(asked, waiting) {
+            Ok(()) => beside(awaiting(), queue(table, identifier_of(asked.command))),
+            Err(refusal) => refuse(refusal),
         }
     } else {
-        refuse(BAD_TABLE)
+        refuse(Refusal::BadTable)
     }
 }
 
 // Set Features 0Bh.
-fn answer_turn<C: Cell>(table: &mut [C], c: Command, early: u16, given: usize, room: usize) -> Reply
-    requires { (Kind.SetNotices ≡ kind_of c) × (early ≡ first_of (early_lines c)) }
-    ensures answered { (i : Item) (before : List ℕ) → length before ≡ room → meaning i ≡ Nobody (viewed Kind.SetNotices c given room) → Answered (C.words table.old) i before result (C.words table.new) before }
+fn answer_turn<C: Cell>(table: &mut [C], asked: Asked, given: usize, room: usize) -> Reply
+    requires { asked.kind ≡ Kind.SetNotices }
+    ensures answered { (i : Item) (before : List ℕ) → length before ≡ room → meaning i ≡ Nobody (viewed Kind.SetNotices asked.command given room) → Answered (C.words table.old) i before result (C.words table.new) before }
     ensures rest { C.rest table.new ≡ C.rest table.old }
 {
     if legal(table) {
-        let status = view_status(early, Kind::SetNotices, c, given, room);
-        if status == 0 {
-            beside(done(), turn(table, turns_on(c)))
-        } else {
-            refuse(status)
+        match view_status(asked, given, room) {
+            Ok(()) => beside(done(), turn(table, turns_on(asked.command))),
+            Err(refusal) => refuse(refusal),
         }
     } else {
-        refuse(BAD_TABLE)
+        refuse(Refusal::BadTable)
     }
 }
 
 // Get Features 0Bh.
-fn answer_notices<C: Cell>(table: &[C], c: Command, early: u16, given: usize, room: usize) -> Reply
-    requires { (Kind.GetNotices ≡ kind_of c) × (early ≡ first_of (early_lines c)) }
-    ensures { (i : Item) (before : List ℕ) → length before ≡ room → meaning i ≡ Nobody (viewed Kind.GetNotices c given room) → Answered (C.words table.now) i before result (C.words table.now) before }
+fn answer_notices<C: Cell>(table: &[C], asked: Asked, given: usize, room: usize) -> Reply
+    requires { asked.kind ≡ Kind.GetNotices }
+    ensures { (i : Item) (before : List ℕ) → length before ≡ room → meaning i ≡ Nobody (viewed Kind.GetNotices asked.command given room) → Answered (C.words table.now) i before result (C.words table.now) before }
 {
     if legal(table) {
-        let status = view_status(early, Kind::GetNotices, c, given, room);
-        if status == 0 {
-            give(notices_no(on_at(table)), 0)
-        } else {
-            refuse(status)
+        match view_status(asked, given, room) {
+            Ok(()) => give(notices_no(on_at(table)), 0),
+            Err(refusal) => refuse(refusal),
         }
     } else {
-        refuse(BAD_TABLE)
+        refuse(Refusal::BadTable)
     }
 }
 
-fn answer_view<C: Cell>(
-    table: &mut [C],
-    k: Kind,
-    c: Command,
-    early: u16,
-    given: usize,
-    answer: &mut [u8],
-) -> Reply
-    requires { (k ≡ kind_of c) × (is_named k ≡ false) × (early ≡ first_of (early_lines c)) }
-    ensures answered { (i : Item) → meaning i ≡ Nobody (viewed k c given (length answer.old)) → Answered (C.words table.old) i answer.old result (C.words table.new) answer.new }
+fn answer_view<C: Cell>(table: &mut [C], asked: Asked, given: usize, answer: &mut [u8]) -> Reply
+    requires { is_named asked.kind ≡ false }
+    ensures answered { (i : Item) → meaning i ≡ Nobody (viewed asked.kind asked.command given (length answer.old)) → Answered (C.words table.old) i answer.old result (C.words table.new) answer.new }
     ensures rest { C.rest table.new ≡ C.rest table.old }
 {
-    match k {
-        Kind::SetNotices => answer_turn(table, c, early, given, answer.len()),
-        Kind::GetNotices => answer_notices(table, c, early, given, answer.len()),
-        Kind::ReadAggregate => answer_aggregate(table, c, early, given, answer),
-        Kind::EventRequest => answer_request(table, c, early),
-        Kind::Identify => answer_identify(table, c, early, given, answer),
+    match asked.kind {
+        Kind::SetNotices => answer_turn(table, asked, given, answer.len()),
+        Kind::GetNotices => answer_notices(table, asked, given, answer.len()),
+        Kind::ReadAggregate => answer_aggregate(table, asked, given, answer),
+        Kind::EventRequest => answer_request(table, asked),
+        Kind::Identify => answer_identify(table, asked, given, answer),
         // the others name a set
         _ => done(),
     }
@@ -283,13 +257,10 @@ pub fn command<C: Cell>(table: &mut [C], bytes: &[u8], given: &[u8], answer: &mu
     ensures answered { Answered (C.words table.old) (Item.command bytes.now given.now (length answer.old)) answer.old result (C.words table.new) answer.new }
     ensures rest { C.rest table.new ≡ C.rest table.old }
 {
-    let c = command_in(bytes);
-    let k = kind_of(c);
-    let early = early_status(k, c);
-    if is_named(k) {
-        answer_named(table, k, c, early, given, answer)
-    } else {
-        answer_view(table, k, c, early, given.len(), answer)
+    let asked = ask(command_in(bytes));
+    match named_by(asked.kind, asked.command) {
+        Some(id) => answer_named(table, id, asked, given, answer),
+        None => answer_view(table, asked, given.len(), answer),
     }
 }
 

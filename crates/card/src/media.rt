@@ -10,13 +10,12 @@ ghost use Rattle.by_value.specs.Ticks.{tick_one};
 ghost use Rattle.steps.specs.Words.{Answered};
 ghost use Rattle.card.specs.InPlace.{LegalAt, Stores, ruled_at, Ruled};
 
-use by_value::entry::entry_no;
+use by_value::entry::refusal_of;
 use octets::cells::Cell;
-use record::event::{is_silent, newly_listed, settle};
+use record::event::{newly_listed, settle};
 use record::legal::DAY_MS;
 use record::{Attributes, Effect, Record, SetId, Slot, State};
-use replies::numbers::{BAD_TABLE, TICK_TOO_LONG, UNKNOWN_SET};
-use replies::{Reply, beside, done, refuse};
+use replies::{Refusal, Reply, beside, done, refuse};
 use rules::{Media, excursion_event, read_event, tick_event, write_event};
 use table::{enter, legal, load, store_moved};
 
@@ -30,8 +29,7 @@ fn store_effect<C: Cell>(table: &mut [C], slot: Slot, r: Record, e: Effect) -> b
     ensures rest { C.rest table.new ≡ C.rest table.old }
 {
     let x = settle(r, e);
-    let silent = is_silent(e);
-    store_moved(table, slot, x, !silent);
+    store_moved(table, slot, x, !e.is_silent());
     newly_listed(r, x)
 }
 
@@ -71,7 +69,7 @@ pub fn event<C: Cell>(table: &mut [C], id: SetId, m: Media) -> Reply
     ensures rest { C.rest table.new ≡ C.rest table.old }
 {
     match enter(table, id) {
-        Err(absent) => refuse(entry_no(UNKNOWN_SET, absent)),
+        Err(absent) => refuse(refusal_of(absent, Refusal::UnknownSet)),
         Ok(slot) => {
             let new = event_at(table, slot, m);
             beside(done(), table::settle(table, new))
@@ -129,12 +127,12 @@ pub fn ticks<C: Cell>(table: &mut [C], t: u32, answer: &mut [u8]) -> Reply
 {
     if legal(table) {
         if DAY_MS < t {
-            return refuse(TICK_TOO_LONG);
+            return refuse(Refusal::TickTooLong);
         }
         let n = table::count_of(table);
         let new = tick_all(table, n, t);
         beside(done(), table::settle(table, new))
     } else {
-        refuse(BAD_TABLE)
+        refuse(Refusal::BadTable)
     }
 }

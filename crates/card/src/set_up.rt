@@ -9,6 +9,7 @@ use by_value::set_up::{new_record, refusal};
 use octets::cells::Cell;
 use pages::bodies::{BODY, attributes_in};
 use record::Slot;
+use replies::numbers::SUCCESS;
 use table::layout::LAYOUT;
 use table::store;
 
@@ -29,12 +30,12 @@ pub fn set_up<C: Cell>(table: &mut [C], bytes: &[u8]) -> u16
     ensures done { SetUp bytes.now (C.words table.old) (C.words table.new) result }
     ensures rest { C.rest table.new ≡ C.rest table.old }
 {
-    let status = refusal(bytes, C::room(table));
-    if status == 0 {
-        let n = bytes.len() / BODY;
-        let header = [LAYOUT, n as u64, 0, 0, 0, 0, 0, 0, 0, 0];
-        C::write(table, 0, &header);
-        write_rows(table, bytes, n);
+    if let Err(refusal) = refusal(bytes, C::room(table)) {
+        return u16::from(refusal);
     }
-    status
+    let n = bytes.len() / BODY;
+    let header = [LAYOUT, n as u64, 0, 0, 0, 0, 0, 0, 0, 0];
+    C::write(table, 0, &header);
+    write_rows(table, bytes, n);
+    SUCCESS
 }

@@ -1,17 +1,18 @@
 -- The rows before the set is looked up, as the code asks them: of the row of the command's kind.
-use mathlib.Core.Path.{◌≡◌, sym, ap, ◌∙◌}
+use mathlib.Core.Path.{◌≡◌, refl, sym, ap, ◌∙◌}
 use mathlib.Core.Bool.{Bool, true, false, not, ◌&&◌, ◌||◌, and-false}
 use mathlib.Core.List.{List, [], ◌∷◌}
 use Prim.Native.Nat.{ℕ}
 use borrow.Author.Tests.{eq-eqb, ne_eqb}
 use lib.Dec.{eqb}
+use Rattle.std.specs.Prelude.{if◌then◌else◌}
 use Rattle.replies.specs.Numbers.{bad_command_length, invalid_opcode, invalid_field, invalid_log_page, not_saveable}
 use Rattle.replies.specs.Status.{Line, line, first_of}
 use Rattle.commands.specs.declared.Command.{Command}
 use Rattle.commands.specs.declared.Kind.{Kind}
 use Rattle.commands.specs.declared.Shape.{Shape}
 use Rattle.commands.specs.Commands.{opcode, chosen, save, select}
-use Rattle.commands.specs.Shapes.{log_opcode, shape_of, has_opcode, has_choice, kind_by, kind_of}
+use Rattle.commands.specs.Shapes.{log_opcode, shape_of, has_opcode, is_choice, has_choice, kind_by, kind_of}
 use Rattle.commands.specs.StatusTable.{reads_log, opcode_listed, is_listed, part_wrong, early_lines}
 use Rattle.commands.proofs.Listed.{opcode_listed_lem, is_listed_lem}
 
@@ -31,8 +32,13 @@ early_is k c e =
     let l : is_listed c ≡ has_opcode (opcode c) (kind_by (opcode c) (chosen c)) && has_choice (chosen c) (kind_by (opcode c) (chosen c)) = is_listed_lem (opcode c) (chosen c) in
     rw (e, o, l)
 
+-- a log page and any other choice have a row each, of which one can hold
+by_log : (b : Bool) (x y z : ℕ) → (if b then x else y) ≡ (if not b && true then y else (if b && true then x else z))
+by_log true x y z = refl
+by_log false x y z = refl
+
 -- what each way through the rows answers
-module _ (k : Kind) (c : Command) (e : k ≡ kind_of c) (op n : ℕ) (s : Shape) (eo : op ≡ opcode c) (en : n ≡ chosen c) (es : s ≡ shape_of k) (w : c.whole ≡ true) where
+module _ (k : Kind) (c : Command) (e : k ≡ kind_of c) (op n : ℕ) (s : Shape) (eo : op ≡ opcode c) (en : n ≡ chosen c) (es : s ≡ shape_of k) (w : not c.whole ≡ false) where
   pub no_opcode : (op ≡ s.opcode → ⊥) → invalid_opcode ≡ first_of (early_lines c)
   no_opcode h =
       let o = ne_eqb (opcode c) (shape_of k).opcode (λ z. h (eo ∙ z ∙ ap (λ (x : Shape). x.opcode) (sym es))) in
@@ -44,25 +50,19 @@ module _ (k : Kind) (c : Command) (e : k ≡ kind_of c) (op n : ℕ) (s : Shape)
     has = eq-eqb (opcode c) (shape_of k).opcode (sym eo ∙ h ∙ ap (λ (x : Shape). x.opcode) es)
 
     -- whether it is this FID, CNS or page, as the code asks it
-    choice_is : (b : Bool) → b ≡ (not s.chooses || eqb n s.choice) → has_choice (chosen c) k ≡ b
+    choice_is : (b : Bool) → b ≡ is_choice s.choice n → has_choice (chosen c) k ≡ b
     choice_is b eb = sym (eb ∙ rw (es, en))
 
-    module _ (b : Bool) (eb : b ≡ (not s.chooses || eqb n s.choice)) (m : b ≡ false) where
-      not_it : has_choice (chosen c) k ≡ false
-      not_it = choice_is b eb ∙ m
-
-      pub no_page : op ≡ log_opcode → invalid_log_page ≡ first_of (early_lines c)
-      no_page l =
-          let q : invalid_log_page ≡ first_of (rows_of k c) = rw (w, has, not_it, eq-eqb (opcode c) log_opcode (sym eo ∙ l)) in
-          q ∙ early_is k c e
-
-      pub no_choice : (op ≡ log_opcode → ⊥) → invalid_field ≡ first_of (early_lines c)
-      no_choice l =
-          let q : invalid_field ≡ first_of (rows_of k c) = rw (w, has, not_it, ne_eqb (opcode c) log_opcode (λ z. l (eo ∙ z))) in
-          q ∙ early_is k c e
+    pub not_listed :
+        (b : Bool) (r : ℕ) → b ≡ is_choice s.choice n → b ≡ false → r ≡ (if eqb op log_opcode then invalid_log_page else invalid_field)
+        → r ≡ first_of (early_lines c)
+    not_listed b r eb m er =
+        let l : has_choice (chosen c) k ≡ false = choice_is b eb ∙ m in
+        let q : (if eqb op log_opcode then invalid_log_page else invalid_field) ≡ first_of (rows_of k c) = rw (eo, w, has, l) (by_log (reads_log c) _ _ _) in
+        er ∙ q ∙ early_is k c e
 
     pub listed_rows :
-        (b : Bool) (r : ℕ) → b ≡ (not s.chooses || eqb n s.choice) → b ≡ true
+        (b : Bool) (r : ℕ) → b ≡ is_choice s.choice n → b ≡ true
         → r ≡ first_of (line (s.save && save c) not_saveable ∷ line (s.select && not (eqb (select c) 0) || s.part && part_wrong k c) invalid_field ∷ [])
         → r ≡ first_of (early_lines c)
     listed_rows b r eb m er =

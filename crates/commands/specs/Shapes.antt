@@ -1,7 +1,7 @@
 -- 01's commands, and 02's, as one table: what each is, what data it takes and answers, whom it names, and which rows of the status table look
 -- at it. What a command does to the set that it names or to the desk, and its page and dword 0, stand by kind in
 -- crates/steps/specs/Commanded.antt.
-use Rattle.std.specs.Prelude.{Bool, true, false, not, ◌||◌, List, [], ◌∷◌, ℕ, ◌*◌, eqb, if◌then◌else◌}
+use Rattle.std.specs.Prelude.{Bool, true, false, Option, Some, None, List, [], ◌∷◌, ℕ, ◌*◌, eqb, if◌then◌else◌}
 use Rattle.octets.specs.Lists.{keep}
 use Rattle.pages.specs.Features.{feature_size}
 use Rattle.pages.specs.Latency.{latency_size}
@@ -54,14 +54,13 @@ set_list_cns = 0x04
 
 -- ---- the table
 
--- a row's columns: opcode; whether it has a FID, CNS or page, and which; bytes of data in; size of the page that it answers, and whether
+-- a row's columns: opcode; its FID, CNS or page, if it has one; bytes of data in; size of the page that it answers, and whether
 -- a part of that is asked; whom it names; and whether these rows of the status table look at it: Save, Select, "14h while off",
 -- "window not 1 or 2 (Set)" with "select D from N too early", and "a fifth gets 0105h"
-abbrev pub shape : ℕ → Bool → ℕ → ℕ → ℕ → Bool → Whom → Bool → Bool → Bool → Bool → Bool → Shape
-shape opcode chooses choice takes page part whom save select on window queues =
+abbrev pub shape : ℕ → Option ℕ → ℕ → ℕ → Bool → Whom → Bool → Bool → Bool → Bool → Bool → Shape
+shape opcode choice takes page part whom save select on window queues =
     record {
       opcode = opcode;
-      chooses = chooses;
       choice = choice;
       takes = takes;
       page = page;
@@ -76,22 +75,22 @@ shape opcode chooses choice takes page part whom save select on window queues =
 
 -- "Features: FID in CDW10 7:0; Save in CDW10 bit 31 (Set)": so many bytes of data in, or a window
 abbrev pub set_feature : ℕ → ℕ → Whom → Bool → Shape
-set_feature fid takes whom window = shape set_opcode true fid takes 0 false whom true false window window false
+set_feature fid takes whom window = shape set_opcode (Some fid) takes 0 false whom true false window window false
 
 -- "Select in CDW10 10:8 (Get)": a page of that size, or the window, which is none while off
 abbrev pub get_feature : ℕ → ℕ → Whom → Bool → Shape
-get_feature fid page whom window = shape get_opcode true fid 0 page false whom false true window false false
+get_feature fid page whom window = shape get_opcode (Some fid) 0 page false whom false true window false false
 
 -- a part of a page of that size
 abbrev pub read_log : ℕ → ℕ → Whom → Shape
-read_log page size whom = shape log_opcode true page 0 size true whom false false false false false
+read_log page size whom = shape log_opcode (Some page) 0 size true whom false false false false false
 
 abbrev pub identified : ℕ → ℕ → Shape
-identified cns size = shape identify_opcode true cns 0 size false NoSet false false false false false
+identified cns size = shape identify_opcode (Some cns) 0 size false NoSet false false false false false
 
 -- a request has no FID, no data and no page
 abbrev pub requested : Shape
-requested = shape request_opcode false 0 0 0 false NoSet false false false false true
+requested = shape request_opcode None 0 0 false NoSet false false false false true
 
 -- 02: "Opcode 0Ch and FID 0Bh leave 01's refusals, name no set"
 abbrev pub shape_of : Kind → Shape
@@ -117,8 +116,12 @@ abbrev pub has_opcode : ℕ → Kind → Bool
 has_opcode n k = eqb n (shape_of k).opcode
 
 -- a FID, CNS or page is that of a kind which has one; a request has none, and takes any
+abbrev pub is_choice : Option ℕ → ℕ → Bool
+is_choice None n = true
+is_choice (Some its) n = eqb n its
+
 abbrev pub has_choice : ℕ → Kind → Bool
-has_choice n k = not (shape_of k).chooses || eqb n (shape_of k).choice
+has_choice n k = is_choice (shape_of k).choice n
 
 -- the first of these kinds with a FID, CNS or page; where none has it, the last
 abbrev pub pick : List Kind → ℕ → Kind

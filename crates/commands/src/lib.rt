@@ -1,17 +1,19 @@
 // What a command's 64 bytes say, 01's commands as one table, and its status table. Nothing here knows of a table of sets.
 #![tactic(auto)]
 
+pub mod asked;
 pub mod shapes;
 pub mod status_table;
 
-ghost use Rattle.std.specs.Prelude.{◌≡◌, ◌≤◌, length};
+ghost use Rattle.std.specs.Prelude.{◌≡◌, ◌-◌, ◌<◌, ◌≤◌, length};
 ghost use Rattle.commands.specs.Commands.{command_size, dwords_of, command_in, bits, opcode, chosen, save, select, feature_set, enable, window_value, cause_by, selects_d, window_cause, retain, dwords, log_set, offset, asked, identifier, turns_on};
 
 use octets::numbers::word;
 use record::SetId;
 use rules::Cause;
 
-// The dwords that are looked at, and whether the command is of 64 bytes.
+// The dwords that are looked at, and whether the command is of 64 bytes. `whole` stands beside them, since a command of another length
+// is read too: its rows of the status table come after that of the table of sets.
 #[derive(Clone, Copy)]
 pub struct Command {
     pub whole: bool,
@@ -50,9 +52,8 @@ pub enum Whom {
 #[derive(Clone, Copy)]
 pub struct Shape {
     pub opcode: u32,
-    // Whether it has a FID, CNS or page, and which.
-    pub chooses: bool,
-    pub choice: u32,
+    // Its FID, CNS or page, if it has one.
+    pub choice: Option<u32>,
     // Bytes of data in.
     pub takes: usize,
     // The size of the page that it answers, and whether a part of that is asked, as of a log.
@@ -81,18 +82,13 @@ fn dwords_in(b: &[u8], whole: bool) -> Command
     requires { command_size ≤ length b.now }
     ensures { result ≡ dwords_of whole b.now }
 {
-    let cdw0 = word(b, 0);
-    let cdw10 = word(b, 40);
-    let cdw11 = word(b, 44);
-    let cdw12 = word(b, 48);
-    let cdw13 = word(b, 52);
     Command {
         whole,
-        cdw0,
-        cdw10,
-        cdw11,
-        cdw12,
-        cdw13,
+        cdw0: word(b, 0),
+        cdw10: word(b, 40),
+        cdw11: word(b, 44),
+        cdw12: word(b, 48),
+        cdw13: word(b, 52),
     }
 }
 
@@ -109,71 +105,62 @@ pub fn command_in(bytes: &[u8]) -> Command
     dwords_in(&b, false)
 }
 
-// Bits 0:0, 7:0, 15:0 and 31:16 of a dword.
-fn low_bit(x: u32) -> u32
-    ensures { result ≡ bits 0 0 x }
+// Bits hi:lo of a dword.
+fn bits(hi: u32, lo: u32, x: u32) -> u32
+    requires { (lo ≤ hi) × (hi < 32) × (hi - lo < 31) }
+    ensures { result ≡ bits hi lo x }
 {
-    x % 2
+    (x >> lo) % (1 << (hi - lo + 1))
 }
 
-fn low_byte(x: u32) -> u32
-    ensures { result ≡ bits 7 0 x }
+// Such bits as the number of a set, or of a command.
+fn half(hi: u32, lo: u32, x: u32) -> u16
+    requires { (lo ≤ hi) × (hi < 32) × (hi - lo < 16) }
+    ensures { result ≡ bits hi lo x }
 {
-    x % 0x100
-}
-
-fn low_half(x: u32) -> u16
-    ensures { result ≡ bits 15 0 x }
-{
-    (x % 0x10000) as u16
-}
-
-fn high_half(x: u32) -> u16
-    ensures { result ≡ bits 31 16 x }
-{
-    (x / 0x10000 % 0x10000) as u16
+    bits(hi, lo, x) as u16
 }
 
 pub fn opcode_of(c: Command) -> u32
     ensures { result ≡ opcode c }
 {
-    low_byte(c.cdw0)
+    bits(7, 0, c.cdw0)
 }
 
 pub fn chosen_by(c: Command) -> u32
     ensures { result ≡ chosen c }
 {
-    low_byte(c.cdw10)
+    bits(7, 0, c.cdw10)
 }
 
 pub fn saves(c: Command) -> bool
     ensures { result ≡ save c }
 {
-    c.cdw10 / 0x8000_0000 % 2 == 1
+    bits(31, 31, c.cdw10) == 1
 }
 
 pub fn selected_by(c: Command) -> u32
     ensures { result ≡ select c }
 {
-    c.cdw10 / 0x100 % 8
+    bits(10, 8, c.cdw10)
 }
 
 pub fn feature_set(c: Command) -> SetId
     ensures { result.0 ≡ feature_set c }
 {
-    SetId(low_half(c.cdw11))
+    SetId(half(15, 0, c.cdw11))
 }
 
 pub fn enables(c: Command) -> bool
     ensures { result ≡ enable c }
 {
-    low_bit(c.cdw12) == 1
+    bits(0, 0, c.cdw12) == 1
 }
 
 pub fn window_value(c: Command) -> u32
     ensures { result ≡ window_value c }
 {
-    c.cdw12 % 8
+    bits(2, 0, c.cdw12)
 }
 
 fn cause_by(d: bool) -> Cause
@@ -198,43 +185,43 @@ pub fn window_cause(c: Command) -> Cause
 pub fn retains(c: Command) -> bool
     ensures { result ≡ retain c }
 {
-    c.cdw10 / 0x8000 % 2 == 1
+    bits(15, 15, c.cdw10) == 1
 }
 
 pub fn dwords_of(c: Command) -> u64
     ensures { result ≡ dwords c }
 {
-    let low = high_half(c.cdw10) as u64;
-    let high = low_half(c.cdw11) as u64;
+    let low = u64::from(bits(31, 16, c.cdw10));
+    let high = u64::from(bits(15, 0, c.cdw11));
     low + 0x10000 * high + 1
 }
 
 pub fn log_set(c: Command) -> SetId
     ensures { result.0 ≡ log_set c }
 {
-    SetId(high_half(c.cdw11))
+    SetId(half(31, 16, c.cdw11))
 }
 
 pub fn offset_of(c: Command) -> u64
     ensures { result ≡ offset c }
 {
-    (c.cdw12 as u64) + 0x1_0000_0000 * (c.cdw13 as u64)
+    u64::from(c.cdw12) + 0x1_0000_0000 * u64::from(c.cdw13)
 }
 
 pub fn asked_by(c: Command) -> SetId
     ensures { result.0 ≡ asked c }
 {
-    SetId(low_half(c.cdw11))
+    SetId(half(15, 0, c.cdw11))
 }
 
 pub fn identifier_of(c: Command) -> u16
     ensures { result ≡ identifier c }
 {
-    high_half(c.cdw0)
+    half(31, 16, c.cdw0)
 }
 
 pub fn turns_on(c: Command) -> bool
     ensures { result ≡ turns_on c }
 {
-    c.cdw11 / 0x1000 % 2 == 1
+    bits(12, 12, c.cdw11) == 1
 }

@@ -1,11 +1,10 @@
 // The commands as one table, and what is read from it.
-ghost use Rattle.std.specs.Prelude.{◌≡◌};
+ghost use Rattle.std.specs.Prelude.{◌≡◌, true, false, MatchOption};
 ghost use Rattle.commands.specs.Shapes.{set_feature, get_feature, read_log, identified, requested, shape_of, kind_of, is_named, named_by, needs_in, needs_out};
 
 use crate::{
     Command, DWORD, Kind, Shape, Whom, chosen_by, dwords_of, feature_set, log_set, opcode_of,
 };
-use octets::casts::from_size;
 use pages::aggregate::AGGREGATE_SIZE;
 use pages::features::FEATURE_SIZE;
 use pages::identify::IDENTIFY_SIZE;
@@ -34,23 +33,34 @@ const AGGREGATE: u32 = 0x0B;
 
 const SET_LIST: u32 = 0x04;
 
+// No data, no page and no set, and no row of its own in the status table.
+const BARE: Shape = Shape {
+    opcode: 0,
+    choice: None,
+    takes: 0,
+    page: 0,
+    part: false,
+    whom: Whom::NoSet,
+    save: false,
+    select: false,
+    on: false,
+    window: false,
+    queues: false,
+};
+
 // Set Features: Save is looked at; so many bytes of data in, or a window.
 fn set_feature(fid: u32, takes: usize, whom: Whom, window: bool) -> Shape
     ensures { result ≡ set_feature fid takes whom window }
 {
     Shape {
         opcode: SET,
-        chooses: true,
-        choice: fid,
+        choice: Some(fid),
         takes,
-        page: 0,
-        part: false,
         whom,
         save: true,
-        select: false,
         on: window,
         window,
-        queues: false,
+        ..BARE
     }
 }
 
@@ -60,17 +70,12 @@ fn get_feature(fid: u32, page: usize, whom: Whom, window: bool) -> Shape
 {
     Shape {
         opcode: GET,
-        chooses: true,
-        choice: fid,
-        takes: 0,
+        choice: Some(fid),
         page,
-        part: false,
         whom,
-        save: false,
         select: true,
         on: window,
-        window: false,
-        queues: false,
+        ..BARE
     }
 }
 
@@ -80,17 +85,11 @@ fn read_log(page: u32, size: usize, whom: Whom) -> Shape
 {
     Shape {
         opcode: LOG,
-        chooses: true,
-        choice: page,
-        takes: 0,
+        choice: Some(page),
         page: size,
         part: true,
         whom,
-        save: false,
-        select: false,
-        on: false,
-        window: false,
-        queues: false,
+        ..BARE
     }
 }
 
@@ -99,17 +98,9 @@ fn identified(cns: u32, size: usize) -> Shape
 {
     Shape {
         opcode: IDENTIFY,
-        chooses: true,
-        choice: cns,
-        takes: 0,
+        choice: Some(cns),
         page: size,
-        part: false,
-        whom: Whom::NoSet,
-        save: false,
-        select: false,
-        on: false,
-        window: false,
-        queues: false,
+        ..BARE
     }
 }
 
@@ -119,17 +110,8 @@ fn requested() -> Shape
 {
     Shape {
         opcode: REQUEST,
-        chooses: false,
-        choice: 0,
-        takes: 0,
-        page: 0,
-        part: false,
-        whom: Whom::NoSet,
-        save: false,
-        select: false,
-        on: false,
-        window: false,
         queues: true,
+        ..BARE
     }
 }
 
@@ -190,35 +172,21 @@ pub fn kind_of(c: Command) -> Kind
     Kind::Identify
 }
 
-pub fn is_named(k: Kind) -> bool
-    ensures { result ≡ is_named k }
+// The set that a command names, if it names one.
+pub fn named_by(k: Kind, c: Command) -> Option<SetId>
+    ensures { MatchOption result (is_named k ≡ false) (λ id. (is_named k ≡ true) × (id.0 ≡ named_by k c)) }
 {
-    let s = shape_of(k);
-    let whom = s.whom;
-    match whom {
-        Whom::NoSet => false,
-        Whom::FeatureSet => true,
-        Whom::LogSet => true,
-    }
-}
-
-pub fn named_by(k: Kind, c: Command) -> SetId
-    ensures { result.0 ≡ named_by k c }
-{
-    let s = shape_of(k);
-    let whom = s.whom;
-    match whom {
-        Whom::NoSet => SetId(0),
-        Whom::FeatureSet => feature_set(c),
-        Whom::LogSet => log_set(c),
+    match shape_of(k).whom {
+        Whom::NoSet => None,
+        Whom::FeatureSet => Some(feature_set(c)),
+        Whom::LogSet => Some(log_set(c)),
     }
 }
 
 pub fn needs_in(k: Kind) -> usize
     ensures { result ≡ needs_in k }
 {
-    let s = shape_of(k);
-    s.takes
+    shape_of(k).takes
 }
 
 pub fn needs_out(k: Kind, c: Command) -> u64
@@ -226,7 +194,8 @@ pub fn needs_out(k: Kind, c: Command) -> u64
 {
     let s = shape_of(k);
     if s.part {
-        return dwords_of(c) * DWORD;
+        dwords_of(c) * DWORD
+    } else {
+        s.page as u64
     }
-    from_size(s.page)
 }

@@ -1,24 +1,21 @@
 // 01's status table, for every command.
 ghost use Rattle.std.specs.Prelude.{◌≡◌, true, not, ◌&&◌, ◌||◌, [], ◌∷◌, ◌++◌, eqb, ltb, ℕ, if◌then◌else◌};
-ghost use Rattle.replies.specs.Numbers.{success, invalid_field, not_saveable, too_short, too_many_requests};
-ghost use Rattle.replies.specs.Status.{line, first_of};
+ghost use Rattle.replies.specs.Numbers.{number, invalid_field, invalid_log_page, not_saveable};
+ghost use Rattle.replies.specs.Status.{line, first_of, status_no};
 ghost use Rattle.commands.specs.Commands.{save, select};
-ghost use Rattle.commands.specs.Shapes.{kind_of, needs_in, needs_out};
+ghost use Rattle.commands.specs.Shapes.{log_opcode, is_choice, kind_of, needs_in, needs_out};
 ghost use Rattle.commands.specs.StatusTable.{part_wrong, early_lines, unknown_number, select_of, is_off, window_wrong, short_line, request_line, selects_early, late_lines};
 ghost use Rattle.commands.specs.declared.Kind.{Kind};
 
+use crate::asked::Asked;
 use crate::shapes::{LOG, needs_in, needs_out, shape_of};
 use crate::{
     Command, DWORD, Kind, Shape, WINDOW_D, WINDOW_N, chosen_by, dwords_of, offset_of, opcode_of,
     saves, selected_by, window_cause, window_value,
 };
 use desk::REQUESTS;
-use octets::casts::from_size;
 use record::State;
-use replies::numbers::{
-    BAD_COMMAND_LENGTH, INVALID_FIELD, INVALID_LOG_PAGE, INVALID_OPCODE, NOT_SAVEABLE, SUCCESS,
-    TOO_EARLY, TOO_MANY_REQUESTS, TOO_SHORT,
-};
+use replies::Refusal;
 use rules::changes::refuses;
 use rules::{Cause, is_early};
 
@@ -27,8 +24,7 @@ const DWORDS_MAXIMUM: u64 = 1024;
 fn part_wrong(k: Kind, c: Command) -> bool
     ensures { result ≡ part_wrong k c }
 {
-    let s = shape_of(k);
-    let size = from_size(s.page);
+    let size = shape_of(k).page as u64;
     let from = offset_of(c);
     let moved = dwords_of(c);
     !(from % DWORD == 0) | (size < from) | (DWORDS_MAXIMUM < moved)
@@ -38,70 +34,75 @@ fn part_wrong(k: Kind, c: Command) -> bool
 fn log_wrong(part: bool, k: Kind, c: Command) -> bool
     ensures { result ≡ (part && part_wrong k c) }
 {
-    if part { part_wrong(k, c) } else { false }
+    part && part_wrong(k, c)
 }
 
 // The rows Save, and Select with the part of a page that is asked.
-fn fields_status(s: Shape, k: Kind, c: Command) -> u16
-    ensures { result ≡ first_of (line (s.save && save c) not_saveable ∷ line (s.select && not (eqb (select c) 0) || s.part && part_wrong k c) invalid_field ∷ []) }
+fn fields_status(s: Shape, k: Kind, c: Command) -> Result<(), Refusal>
+    ensures { status_no result ≡ first_of (line (s.save && save c) not_saveable ∷ line (s.select && not (eqb (select c) 0) || s.part && part_wrong k c) invalid_field ∷ []) }
 {
     let save = saves(c);
     let select = selected_by(c);
     let wrong = log_wrong(s.part, k, c);
-    let tests = [s.save & save, (s.select & !(select == 0)) | wrong];
-    replies::first(&tests, &[NOT_SAVEABLE, INVALID_FIELD])
+    replies::first(&[
+        (s.save & save, Refusal::NotSaveable),
+        ((s.select & !(select == 0)) | wrong, Refusal::InvalidField),
+    ])
 }
 
 fn has_choice(s: Shape, choice: u32) -> bool
-    ensures { result ≡ (not s.chooses || eqb choice s.choice) }
+    ensures { result ≡ is_choice s.choice choice }
 {
-    !s.chooses | (choice == s.choice)
+    s.choice.is_none_or(|its| choice == its)
+}
+
+// The refusal of a FID, CNS or page that is not listed.
+fn unlisted(opcode: u32) -> Refusal
+    ensures { number result ≡ (if eqb opcode log_opcode then invalid_log_page else invalid_field) }
+{
+    if opcode == LOG {
+        Refusal::InvalidLogPage
+    } else {
+        Refusal::InvalidField
+    }
 }
 
 // The rows before the set is looked up. Where the command is not listed, its kind has another opcode, or another FID, CNS or page.
-pub fn early_status(k: Kind, c: Command) -> u16
+pub(crate) fn early_status(k: Kind, c: Command) -> Result<(), Refusal>
     requires { k ≡ kind_of c }
-    ensures { result ≡ first_of (early_lines c) }
+    ensures { status_no result ≡ first_of (early_lines c) }
 {
     let s = shape_of(k);
     let opcode = opcode_of(c);
     let choice = chosen_by(c);
-    if c.whole {
-        if opcode == s.opcode {
-            if has_choice(s, choice) {
-                return fields_status(s, k, c);
-            }
-            if opcode == LOG {
-                return INVALID_LOG_PAGE;
-            }
-            return INVALID_FIELD;
-        }
-        return INVALID_OPCODE;
+    if !c.whole {
+        return Err(Refusal::BadCommandLength);
     }
-    BAD_COMMAND_LENGTH
+    if opcode != s.opcode {
+        return Err(Refusal::InvalidOpcode);
+    }
+    if !has_choice(s, choice) {
+        return Err(unlisted(opcode));
+    }
+    fields_status(s, k, c)
 }
 
 // The select whose entry in the table of window changes is asked.
 fn select_of(k: Kind, c: Command) -> Cause
     ensures { result ≡ select_of k c }
 {
-    let s = shape_of(k);
-    if s.window {
-        return window_cause(c);
+    if shape_of(k).window {
+        window_cause(c)
+    } else {
+        Cause::SelectN
     }
-    Cause::SelectN
 }
 
 // Only of a command of 14h is the entry asked.
 fn is_off(k: Kind, c: Command, s: State) -> bool
     ensures { result ≡ is_off k c s }
 {
-    let shape = shape_of(k);
-    let w = s.window;
-    if shape.on {
-        return refuses(w, select_of(k, c));
-    }
-    false
+    shape_of(k).on && refuses(s.window, select_of(k, c))
 }
 
 fn window_wrong(k: Kind, c: Command, s: State) -> bool
@@ -116,85 +117,65 @@ fn window_wrong(k: Kind, c: Command, s: State) -> bool
 fn too_short(k: Kind, c: Command, given: usize, room: usize) -> bool
     ensures { result ≡ (ltb given (needs_in k) || ltb room (needs_out k c)) }
 {
-    let wanted = needs_in(k);
-    let written = needs_out(k, c);
-    let has = room as u64;
-    (given < wanted) | (has < written)
+    (given < needs_in(k)) | ((room as u64) < needs_out(k, c))
 }
 
 // Only of a command that selects a window is the time looked at.
 fn selects_early(k: Kind, c: Command, s: State) -> bool
     ensures { result ≡ selects_early k c s }
 {
-    let shape = shape_of(k);
-    if shape.window {
-        return is_early(s, window_cause(c));
-    }
-    false
+    shape_of(k).window && is_early(s, window_cause(c))
 }
 
 // The rows after it.
-fn late_status(k: Kind, c: Command, given: usize, room: usize, s: State) -> u16
-    ensures { result ≡ first_of (late_lines k c given room s) }
+fn late_status(k: Kind, c: Command, given: usize, room: usize, s: State) -> Result<(), Refusal>
+    ensures { status_no result ≡ first_of (late_lines k c given room s) }
 {
     if window_wrong(k, c, s) {
-        return INVALID_FIELD;
+        return Err(Refusal::InvalidField);
     }
     if too_short(k, c, given, room) {
-        return TOO_SHORT;
+        return Err(Refusal::TooShort);
     }
     if selects_early(k, c, s) {
-        return TOO_EARLY;
+        return Err(Refusal::TooEarly);
     }
-    SUCCESS
+    Ok(())
 }
 
-// One table above another.
-fn above(first: u16, next: u16) -> u16
-    ensures { result ≡ (if eqb first 0 then next else first) }
+// The status of a command whose early rows are asked already.
+
+// A set that is not in the table always refuses it.
+pub fn unknown_refusal(asked: Asked) -> Refusal
+    ensures { number result ≡ first_of (early_lines asked.command ++ line true unknown_number ∷ []) }
 {
-    if first == 0 { next } else { first }
+    asked.early.err().unwrap_or(Refusal::InvalidField)
 }
 
-// The status of a command whose early rows are known: they are asked once.
-
-pub fn unknown_status(early: u16, c: Command) -> u16
-    requires { early ≡ first_of (early_lines c) }
-    ensures { result ≡ first_of (early_lines c ++ line true unknown_number ∷ []) }
+pub fn found_status(asked: Asked, given: usize, room: usize, s: State) -> Result<(), Refusal>
+    ensures { status_no result ≡ first_of (early_lines asked.command ++ late_lines asked.kind asked.command given room s) }
 {
-    above(early, INVALID_FIELD)
+    asked.early?;
+    late_status(asked.kind, asked.command, given, room, s)
 }
 
-pub fn found_status(early: u16, k: Kind, c: Command, given: usize, room: usize, s: State) -> u16
-    requires { early ≡ first_of (early_lines c) }
-    ensures { result ≡ first_of (early_lines c ++ late_lines k c given room s) }
+pub fn view_status(asked: Asked, given: usize, room: usize) -> Result<(), Refusal>
+    ensures { status_no result ≡ first_of (early_lines asked.command ++ short_line asked.kind asked.command given room ∷ []) }
 {
-    above(early, late_status(k, c, given, room, s))
-}
-
-fn short_status(short: bool) -> u16
-    ensures { result ≡ (if short then too_short else success) }
-{
-    if short { TOO_SHORT } else { SUCCESS }
-}
-
-pub fn view_status(early: u16, k: Kind, c: Command, given: usize, room: usize) -> u16
-    requires { early ≡ first_of (early_lines c) }
-    ensures { result ≡ first_of (early_lines c ++ short_line k c given room ∷ []) }
-{
-    above(early, short_status(too_short(k, c, given, room)))
-}
-
-fn full_status(full: bool) -> u16
-    ensures { result ≡ (if full then too_many_requests else success) }
-{
-    if full { TOO_MANY_REQUESTS } else { SUCCESS }
+    asked.early?;
+    if too_short(asked.kind, asked.command, given, room) {
+        return Err(Refusal::TooShort);
+    }
+    Ok(())
 }
 
 // A request needs no data and no room; `waiting`: so many wait already.
-pub fn request_status(early: u16, c: Command, waiting: u64) -> u16
-    requires { early ≡ first_of (early_lines c) }
-    ensures { (given room : ℕ) → result ≡ first_of (early_lines c ++ short_line Kind.EventRequest c given room ∷ request_line Kind.EventRequest waiting ∷ []) }
+pub fn request_status(asked: Asked, waiting: u64) -> Result<(), Refusal>
+    ensures { (given room : ℕ) → status_no result ≡ first_of (early_lines asked.command ++ short_line Kind.EventRequest asked.command given room ∷ request_line Kind.EventRequest waiting ∷ []) }
 {
-    above(early, full_status(REQUESTS <= waiting))
+    asked.early?;
+    if REQUESTS <= waiting {
+        return Err(Refusal::TooManyRequests);
+    }
+    Ok(())
 }

@@ -1,3 +1,3 @@
-pub mod Turns
 pub mod Rows
 pub mod Answering
+pub mod Refusals

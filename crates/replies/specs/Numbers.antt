@@ -1,5 +1,7 @@
 -- 01, "Status numbers (type x 256 + code)", and those of 02.
 use Rattle.std.specs.Prelude.{ℕ}
+use Rattle.replies.specs.declared.Refusal.{Refusal}
+use Rattle.replies.specs.declared.Refusal.TheVariants.{InvalidOpcode, InvalidField, TooManyRequests, InvalidLogPage, NotSaveable, UnknownSet, TooEarly, TooShort, BadTable, BadSetUp, TickTooLong, BadCommandLength}
 
 -- carried out
 abbrev pub success : ℕ
@@ -56,3 +58,19 @@ bad_command_length = 0x07C7
 -- 02: "each answered 07C8h (waiting, no refusal)"
 abbrev pub request_waits : ℕ
 request_waits = 0x07C8
+
+-- ---- the refusals of the code, each by its number
+
+abbrev pub number : Refusal → ℕ
+number InvalidOpcode = invalid_opcode
+number InvalidField = invalid_field
+number TooManyRequests = too_many_requests
+number InvalidLogPage = invalid_log_page
+number NotSaveable = not_saveable
+number UnknownSet = unknown_set
+number TooEarly = too_early
+number TooShort = too_short
+number BadTable = bad_table
+number BadSetUp = bad_set_up
+number TickTooLong = tick_too_long
+number BadCommandLength = bad_command_length

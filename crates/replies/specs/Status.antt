@@ -1,5 +1,7 @@
 -- A status table: rows of a test and a number, in the document's order.
-use Rattle.std.specs.Prelude.{◌≡◌, Bool, true, false, ◌&&◌, List, [], ◌∷◌, ℕ, ltb, if◌then◌else◌}
+use Rattle.std.specs.Prelude.{◌≡◌, Bool, true, false, ◌&&◌, List, [], ◌∷◌, ℕ, ltb, if◌then◌else◌, Result, Ok, Err}
+use Rattle.replies.specs.declared.Refusal.{Refusal}
+use Rattle.replies.specs.Numbers.{success, number}
 
 -- a row of the table: "when" and "number"
 pub record Line : Type 0 where
@@ -14,11 +16,15 @@ abbrev pub first_of : List Line → ℕ
 first_of [] = 0
 first_of (l ∷ ls) = if l.holds then l.number else first_of ls
 
--- a table as code holds it: the tests and, beside them, the numbers
-abbrev pub lines_of : List Bool → List ℕ → List Line
-lines_of [] ns = []
-lines_of (b ∷ bs) [] = []
-lines_of (b ∷ bs) (n ∷ ns) = line b n ∷ lines_of bs ns
+-- a table as code holds it: each test with its refusal
+abbrev pub lines_of : List (Bool × Refusal) → List Line
+lines_of [] = []
+lines_of (row ∷ rows) = line row.0 (number row.1) ∷ lines_of rows
+
+-- what code answers, as a status number: "0000 success"
+abbrev pub status_no : Result Unit Refusal → ℕ
+status_no (Ok _) = success
+status_no (Err r) = number r
 
 -- no row has the number 0, which stands for success
 abbrev pub numbered : List Line → Bool

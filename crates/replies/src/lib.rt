@@ -5,7 +5,8 @@ pub mod numbers;
 
 ghost use Rattle.std.specs.Prelude.{◌≡◌, ◌≤◌, length};
 ghost use Rattle.octets.specs.Octets.{padded};
-ghost use Rattle.replies.specs.Status.{first_of, lines_of};
+ghost use Rattle.replies.specs.Numbers.{number};
+ghost use Rattle.replies.specs.Status.{first_of, lines_of, status_no};
 ghost use Rattle.replies.specs.Answers.{answered, replying, refusing, giving, done, awaiting, beside_of, told_no, to_no, notice_of, notice_no, Replied};
 
 use crate::numbers::{REQUEST_WAITS, SUCCESS};
@@ -24,19 +25,33 @@ pub struct Reply {
     pub notice: Notice,
 }
 
-// The number of the first test that holds, or 0. A table with a number missing is refused by the prover.
-pub fn first(tests: &[bool], numbers: &[u16]) -> u16
-    requires { length tests.now ≡ length numbers.now }
-    ensures { result ≡ first_of (lines_of tests.now numbers.now) }
+// Why an item is refused: each reason by its number.
+#[derive(Clone, Copy, PartialEq, Eq, Debug)]
+pub enum Refusal {
+    InvalidOpcode = 0x0001,
+    InvalidField = 0x0002,
+    TooManyRequests = 0x0105,
+    InvalidLogPage = 0x0109,
+    NotSaveable = 0x010D,
+    UnknownSet = 0x07C0,
+    TooEarly = 0x07C1,
+    TooShort = 0x07C2,
+    BadTable = 0x07C3,
+    BadSetUp = 0x07C4,
+    TickTooLong = 0x07C5,
+    BadCommandLength = 0x07C7,
+}
+
+// The refusal of the first row that holds.
+pub fn first(rows: &[(bool, Refusal)]) -> Result<(), Refusal>
+    ensures { status_no result ≡ first_of (lines_of rows.now) }
 {
-    let mut i = 0;
-    while i < tests.len() {
-        if tests[i] {
-            return numbers[i];
+    for (holds, refusal) in rows {
+        if *holds {
+            return Err(*refusal);
         }
-        i += 1;
     }
-    SUCCESS
+    Ok(())
 }
 
 // A number and nothing else.
@@ -51,10 +66,10 @@ fn bare(status: u16) -> Reply
     }
 }
 
-pub fn refuse(status: u16) -> Reply
-    ensures { result ≡ refusing status }
+pub fn refuse(r: Refusal) -> Reply
+    ensures { result ≡ refusing (number r) }
 {
-    bare(status)
+    bare(u16::from(r))
 }
 
 // Carried out, with dword 0 and so many bytes of data.
@@ -87,12 +102,7 @@ pub fn awaiting() -> Reply
 pub fn beside(r: Reply, notice: Notice) -> Reply
     ensures { result ≡ beside_of r notice }
 {
-    Reply {
-        status: r.status,
-        dword: r.dword,
-        len: r.len,
-        notice: notice,
-    }
+    Reply { notice, ..r }
 }
 
 // A notice as numbers: whether there is one, its request's identifier, and its dword 0.
@@ -123,19 +133,21 @@ pub fn notice_no(notice: Notice) -> u32
 
 // A refusal, which writes nothing, or n bytes of a page from place `from`: the one way in which data goes out.
 pub fn hand_out(
-    status: u16,
+    status: Result<(), Refusal>,
     dword: u32,
     page: &[u8],
     from: usize,
     n: usize,
     answer: &mut [u8],
 ) -> Reply
-    requires { status ≡ 0 → (from ≤ length page.now) × (n ≤ length answer.old) }
-    ensures { Replied (answered status dword (padded page.now from n)) answer.old result answer.new }
+    requires { status_no status ≡ 0 → (from ≤ length page.now) × (n ≤ length answer.old) }
+    ensures { Replied (answered (status_no status) dword (padded page.now from n)) answer.old result answer.new }
 {
-    if status != SUCCESS {
-        return refuse(status);
+    match status {
+        Ok(()) => {
+            octets::copy_part(page, from, n, answer);
+            give(dword, n)
+        }
+        Err(r) => refuse(r),
     }
-    octets::copy_part(page, from, n, answer);
-    give(dword, n)
 }

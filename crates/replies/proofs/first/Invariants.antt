@@ -1,11 +1,7 @@
 use mathlib.Core.Path.{◌≡◌}
-use Prim.Native.Nat.{◌-◌, ◌≤◌}
-use lib.ListN.{length, drop}
+use lib.ListN.{drop}
 use Rattle.replies.specs.Status.{first_of, lines_of}
 use Rattle.replies.proofs.first.Given as goal
 
-abbrev pub invariant-loop-i : goal.invariant-loop-i
-invariant-loop-i l = (l.i ≤ length l.tests) × (first_of (lines_of (drop l.i l.tests) (drop l.i l.numbers)) ≡ first_of (lines_of l.tests l.numbers))
-
-abbrev pub decreases-loop-i : goal.decreases-loop-i
-decreases-loop-i l = length l.tests - l.i
+abbrev pub invariant-loop-holds : goal.invariant-loop-holds
+invariant-loop-holds l = first_of (lines_of (drop l.holds-index l.rows)) ≡ first_of (lines_of l.rows)

@@ -1,23 +1,17 @@
-use native.Mathlib.Nat.{sub-zero}
-use borrow.Author.Rules.{rules}
-use Rattle.by_value.proofs.Bodies.{legal_stop, legal_again, legal_end}
+use mathlib.Core.Path.{◌≡◌}
+use Prim.Native.Nat.{◌+◌, ◌*◌}
+use native.Mathlib.Omega.{arith}
+use Rattle.pages.specs.Bodies.{body_size}
+use Rattle.by_value.proofs.Bodies.{legal_stop, legal_again}
 use Rattle.by_value.proofs.set_up.bodies_legal.Goals as goal
 
-pub loop-i-init : goal.loop-i-init
-loop-i-init c = (search rules, search rules, rw sub-zero)
-
-pub returns-else-follows : goal.returns-else-follows
-returns-else-follows c =
+pub returns-then-not-follows : goal.returns-then-not-follows
+returns-then-not-follows c =
     let l = c.loop-i in
-    legal_stop _ _ l.i l.at _ _ l.invariant.2 _ c.loop-i-test.true c.follows.ensures c.if-follows.false
+    legal_stop c.args.bytes.now c.args.n l.i (l.i * body_size) l.before _ l.invariant c.follows.result c.loop-i-test.true c.follows.ensures c.if-not-follows.true
 
 pub loop-i-preserved : goal.loop-i-preserved
 loop-i-preserved c =
-    let l = c.loop-i in (
-      search rules,
-      search rules,
-      legal_again _ _ l.i l.at _ _ l.invariant.2 _ c.loop-i-test.true c.follows.ensures _ c.body_id-before.ensures c.if-follows.true,
-    )
-
-pub returns : goal.returns
-returns c = let l = c.loop-i in legal_end _ _ l.i l.at _ _ l.invariant.2 c.loop-i-test.false
+    let l = c.loop-i in
+    let next : (l.i + 1) * body_size ≡ l.i * body_size + body_size = omega arith in
+    rw next (legal_again c.args.bytes.now c.args.n l.i (l.i * body_size) l.before _ l.invariant c.follows.result c.loop-i-test.true c.follows.ensures _ c.body_id-before.ensures c.if-not-follows.false)

@@ -1,7 +1,10 @@
 use mathlib.Core.Path.{refl, sym, ◌∙◌}
+use native.Mathlib.Omega.{arith}
 use lib.ListN.{length}
 use Rattle.table.proofs.LegalTables.{legal_known, desk_there}
 use Rattle.commands.specs.declared.Kind.TheVariants.{ReadAggregate}
+use Rattle.replies.proofs.Refusals.{ok_is}
+use Rattle.by_value.proofs.Passed.{view_fine}
 use Rattle.by_value.proofs.NamedCommands.{answered_bad}
 use Rattle.by_value.proofs.Viewed.{unqueued, aggregate_read}
 use Rattle.card.proofs.commanded.answer_aggregate.Goals as goal
@@ -9,16 +12,24 @@ use Rattle.card.proofs.commanded.answer_aggregate.Goals as goal
 pub aggregate_of-page-requires : goal.aggregate_of-page-requires
 aggregate_of-page-requires g c = legal_known _ (sym c.legal.ensures ∙ c.if-legal.true)
 
+pub hand_out-reply-requires : goal.hand_out-reply-requires
+hand_out-reply-requires g c =
+    λ z.
+    let s = c.args in
+    let f = view_fine ReadAggregate s.asked.command s.given (length s.answer.now) _ (sym c.requires ∙ s.asked.is_kind) (rw c.requires at c.view_status-status.ensures) z in
+    (omega (arith, f.start refl, c.offset_of-from.ensures), omega (arith, f.outward, c.needs_out-n.ensures))
+
 pub lift_if-requires : goal.lift_if-requires
 lift_if-requires g c = desk_there _ (legal_known _ (sym c.legal.ensures ∙ c.if-legal.true))
 
 pub returns-then-legal-clause-answered : goal.returns-then-legal-clause-answered
 returns-then-legal-clause-answered g c =
+    let s = c.args in
     λ i m.
-    aggregate_read _ i c.args.c c.args.given c.args.answer.now m (sym c.legal.ensures ∙ c.if-legal.true) _
-    (unqueued ReadAggregate c.args.c c.args.given (length c.args.answer.now) (g.C.Cell.words c.args.table.now) _ refl c.view_status-status.ensures) _ _ _ _ _
+    aggregate_read _ i s.asked.command s.given s.answer.now m (sym c.legal.ensures ∙ c.if-legal.true) _
+    (unqueued ReadAggregate s.asked.command s.given (length s.answer.now) (g.C.Cell.words s.table.now) _ refl (rw c.requires at c.view_status-status.ensures)) _ _ _ _ _
     (rw (c.aggregate_of-page.ensures, c.offset_of-from.ensures, c.needs_out-n.ensures)) c.hand_out-reply.ensures
-    c.beside.ensures (rw c.retains.ensures at c.lift_if.ensures.lifted)
+    c.beside.ensures (rw (c.retains.ensures, c.is_ok.ensures.value ∙ ok_is c.view_status-status.result) at c.lift_if.ensures.lifted)
 
 pub returns-else-legal-clause-answered : goal.returns-else-legal-clause-answered
 returns-else-legal-clause-answered g c = λ i m. answered_bad _ i _ _ (sym c.legal.ensures ∙ c.if-legal.false) c.refuse.ensures

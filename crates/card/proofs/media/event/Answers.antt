@@ -13,7 +13,7 @@ settle-requires g c = stored_desk _ _ _ _ c.event_at-new.ensures.stored.table (e
 
 pub returns-in-Err-clause-answered : goal.returns-in-Err-clause-answered
 returns-in-Err-clause-answered g c =
-    event_absent (g.C.Cell.words c.args.table.now) c.args.id.0 c.args.m _ c.enter.ensures _ _ c.in-Err.is (c.refuse.ensures ∙ ap refusing c.entry_no.ensures)
+    event_absent (g.C.Cell.words c.args.table.now) c.args.id.0 c.args.m _ c.enter.ensures _ _ c.in-Err.is (c.refuse.ensures ∙ ap refusing c.refusal_of.ensures)
 
 pub returns-in-Ok-clause-answered : goal.returns-in-Ok-clause-answered
 returns-in-Ok-clause-answered g c =
