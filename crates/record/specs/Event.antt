@@ -88,11 +88,6 @@ any_enabled happened enabled =
     (happened.reads && enabled.reads) || (happened.writes && enabled.writes) || (happened.time && enabled.time)
     || (happened.exceeded && enabled.exceeded) || (happened.excursion && enabled.excursion)
 
--- the events that two have in common
-abbrev pub common : Events → Events → Events
-common e f =
-    events_of (e.reads && f.reads) (e.writes && f.writes) (e.time && f.time) (e.exceeded && f.exceeded) (e.excursion && f.excursion)
-
 -- the old events, where they are kept, and the new ones
 abbrev pub joined : Bool → Events → Events → Events
 joined kept old new =
