@@ -68,7 +68,7 @@ fn unlisted(opcode: u32) -> Refusal
 }
 
 // The rows before the set is looked up. Where the command is not listed, its kind has another opcode, or another FID, CNS or page.
-pub(crate) fn early_status(k: Kind, c: Command) -> Result<(), Refusal>
+pub fn early_status(k: Kind, c: Command) -> Result<(), Refusal>
     requires { k ≡ kind_of c }
     ensures { status_no result ≡ first_of (early_lines c) }
 {

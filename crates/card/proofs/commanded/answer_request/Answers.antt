@@ -15,7 +15,7 @@ waiting_at-waiting-requires g c = desk_there _ (legal_known _ (sym c.legal.ensur
 pub queue-requires : goal.queue-requires
 queue-requires g c = (
   desk_there _ (legal_known _ (sym c.legal.ensures ∙ c.if-legal.true)),
-  request_few c.args.asked.command 0 0 (desk_at c.arg(g.C.Cell.words s.table.now)).waiting (sym (rw (c.waiting_at-waiting.ensures, c.in-Ok.is) at (c.request_status.ensures 0 0))),
+  request_few c.args.asked.command 0 0 (desk_at (g.C.Cell.words c.args.table.now)).waiting (sym (rw (c.waiting_at-waiting.ensures, c.in-Ok.is) at (c.request_status.ensures 0 0))),
 )
 
 pub returns-in-Ok-clause-answered : goal.returns-in-Ok-clause-answered
