@@ -33,6 +33,6 @@ pub struct Progress {
     pub used: usize,
     // bytes of text that are written
     pub len: usize,
-    // whether it can go on with what it has
+    // whether it can go on with what it has: a flag, since `turns` of specs/Pieces.antt, of which `Printed` speaks, tests it
     pub going: bool,
 }

@@ -147,7 +147,7 @@ fn item_turn(table: &mut [u64], line: &mut Line, left: &[u8], last: bool, n: u64
     }
 }
 
-// ---- a call
+// ---- a call. Table and bodies are lent by the caller at each call, and each clause speaks of both, so they are passed one by one.
 
 fn turn(
     table: &mut [u64],

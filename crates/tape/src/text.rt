@@ -117,7 +117,7 @@ fn put_digits(out: &mut [u8], at: usize, base: u64, width: usize, v: u64)
     }
 }
 
-// How many decimal digits a number has.
+// How many decimal digits a number has. The loop ends with the number and not after a count, so a `for` says no more.
 fn places_of(n: u64) -> usize
     ensures { (result ≡ places n) × (result ≤ 20) }
 {
