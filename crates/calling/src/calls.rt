@@ -57,21 +57,15 @@ fn answer_part<W: Write>(
     given: &[u8],
     answer: &mut [u8],
 ) {
-    let mut status = 0;
-    let mut dword = 0;
-    let mut told = 0;
-    let mut to = 0;
-    let written = command_part(
-        table,
-        bytes,
-        given,
-        answer,
-        &mut status,
-        &mut dword,
-        &mut told,
-        &mut to,
+    let (r, written) = command_part(table, bytes, given, answer);
+    give_reply(
+        out,
+        r.status,
+        r.dword,
+        written.len(),
+        told_no(r.notice),
+        to_no(r.notice),
     );
-    give_reply(out, status, dword, written.len(), told, to);
     give(out, written);
 }
 

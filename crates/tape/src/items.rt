@@ -12,7 +12,6 @@ use card::media::{event, ticks};
 use octets::numbers::{short, word};
 use pages::bodies::BODY;
 use record::SetId;
-use replies::notice_of;
 use rules::Media;
 
 const KINDS: usize = 7;
@@ -59,22 +58,9 @@ fn play_command(table: &mut [u64], line: &mut [u8; LINE], bytes: &[u8], given: &
     ensures { Played table.old (some (Item.command bytes.now given.now answer_size)) line.old result table.new line.new }
 {
     let mut answer = [0u8; ANSWER_SIZE];
-    let mut status = 0;
-    let mut dword = 0;
-    let mut told = 0;
-    let mut to = 0;
-    let part = command_part(
-        table,
-        bytes,
-        given,
-        &mut answer,
-        &mut status,
-        &mut dword,
-        &mut told,
-        &mut to,
-    );
-    let end = item_line(line, status, dword, part);
-    notice_line(line, end, notice_of(told, to))
+    let (r, part) = command_part(table, bytes, given, &mut answer);
+    let end = item_line(line, r.status, r.dword, part);
+    notice_line(line, end, r.notice)
 }
 
 fn play_media(table: &mut [u64], line: &mut [u8; LINE], kind: u8, body: &[u8]) -> usize

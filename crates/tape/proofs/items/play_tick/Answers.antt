@@ -5,4 +5,4 @@ pub notice_line-requires : goal.notice_line-requires
 notice_line-requires c = let l = c.item_line-end.ensures in (l.1, l.0.within)
 
 pub returns : goal.returns
-returns c = played_answer _ _ _ _ _ _ _ _ _ _ _ c.ticks-r.ensures c.item_line-end.ensures.0 c.notice_line.ensures
+returns c = played_answer _ _ _ _ _ _ _ _ _ _ _ c.ticks-r.ensures.answered c.item_line-end.ensures.0 c.notice_line.ensures
