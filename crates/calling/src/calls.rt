@@ -45,21 +45,15 @@ fn answer_whole<W: Write>(out: &mut W, head: &[u8; HEAD], lent: &mut Lent<'_>) -
 }
 
 fn answer_part<W: Write>(out: &mut W, lent: &mut Lent<'_>) -> io::Result<()> {
-    let mut status = 0;
-    let mut dword = 0;
-    let mut told = 0;
-    let mut to = 0;
-    let written = command_part(
-        lent.table,
-        lent.command,
-        lent.data,
-        lent.answer,
-        &mut status,
-        &mut dword,
-        &mut told,
-        &mut to,
-    );
-    give_reply(out, status, dword, written.len(), told, to)?;
+    let (r, written) = command_part(lent.table, lent.command, lent.data, lent.answer);
+    give_reply(
+        out,
+        r.status,
+        r.dword,
+        written.len(),
+        told_no(r.notice),
+        to_no(r.notice),
+    )?;
     out.write_all(written)
 }
 

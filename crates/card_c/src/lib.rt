@@ -9,9 +9,10 @@ ghost use Rattle.steps.specs.Items.{Item};
 ghost use Rattle.card_c.specs.Entries.{SetUpAtC, AnsweredAtC};
 
 use crate::reply::put_reply;
-use card::media::{excursion, reads, ticks, writes};
+use card::media::{event, ticks};
 use card::set_up::set_up;
 use record::SetId;
+use rules::Media;
 
 pub fn card_set_up(table: &mut [u8], bodies: &[u8]) -> u16
     ensures { SetUpAtC bodies.now table.old table.new result }
@@ -36,7 +37,7 @@ pub fn card_command(
 pub fn card_reads(table: &mut [u8], set: u16, count: u16, reply: &mut [u8]) -> u16
     ensures { AnsweredAtC table.old (Item.reads set count) [] reply.old result table.new [] reply.new }
 {
-    let r = reads(table, SetId(set), count);
+    let r = event(table, SetId(set), Media::Reads(count));
     put_reply(reply, r);
     r.status
 }
@@ -44,7 +45,7 @@ pub fn card_reads(table: &mut [u8], set: u16, count: u16, reply: &mut [u8]) -> u
 pub fn card_writes(table: &mut [u8], set: u16, count: u16, reply: &mut [u8]) -> u16
     ensures { AnsweredAtC table.old (Item.writes set count) [] reply.old result table.new [] reply.new }
 {
-    let r = writes(table, SetId(set), count);
+    let r = event(table, SetId(set), Media::Writes(count));
     put_reply(reply, r);
     r.status
 }
@@ -52,7 +53,7 @@ pub fn card_writes(table: &mut [u8], set: u16, count: u16, reply: &mut [u8]) -> 
 pub fn card_excursion(table: &mut [u8], set: u16, reply: &mut [u8]) -> u16
     ensures { AnsweredAtC table.old (Item.excursion set) [] reply.old result table.new [] reply.new }
 {
-    let r = excursion(table, SetId(set));
+    let r = event(table, SetId(set), Media::Excursion);
     put_reply(reply, r);
     r.status
 }

@@ -14,7 +14,6 @@ use card::media::{event, ticks};
 use octets::numbers::{short, word};
 use pages::bodies::BODY;
 use record::SetId;
-use replies::notice_of;
 use rules::Media;
 
 const ATTRIBUTES_KIND: u8 = 7;
@@ -96,22 +95,9 @@ fn play_command(table: &mut [u64], line: &mut Line, bytes: &[u8], given: &[u8])
     ensures { Played table.old (some (Item.command bytes.now given.now answer_size)) table.new line.new }
 {
     let mut answer = [0u8; ANSWER_SIZE];
-    let mut status = 0;
-    let mut dword = 0;
-    let mut told = 0;
-    let mut to = 0;
-    let part = command_part(
-        table,
-        bytes,
-        given,
-        &mut answer,
-        &mut status,
-        &mut dword,
-        &mut told,
-        &mut to,
-    );
-    item_line(line, status, dword, part);
-    notice_line(line, notice_of(told, to));
+    let (r, part) = command_part(table, bytes, given, &mut answer);
+    item_line(line, r.status, r.dword, part);
+    notice_line(line, r.notice);
 }
 
 fn play_item(table: &mut [u64], line: &mut Line, kind: Kind, body: &[u8])
