@@ -21,7 +21,7 @@ abbrev pub lines_of : List (Bool × Refusal) → List Line
 lines_of [] = []
 lines_of (row ∷ rows) = line row.0 (number row.1) ∷ lines_of rows
 
--- what code answers, as a status number: "0000 success"
+-- what code answers, as a status number
 abbrev pub status_no : Result Unit Refusal → ℕ
 status_no (Ok _) = success
 status_no (Err r) = number r
