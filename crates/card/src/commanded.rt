@@ -6,7 +6,7 @@ ghost use Rattle.desk.specs.Desk.{lifted};
 ghost use Rattle.table.specs.Layout.{record_of};
 ghost use Rattle.table.specs.Table.{row, desk_at, with_desk, DeskThere};
 ghost use Rattle.commands.specs.declared.Kind.{Kind};
-ghost use Rattle.commands.specs.Shapes.{is_named, named_by, needs_in};
+ghost use Rattle.commands.specs.Shapes.{kind_of, is_named, named_by, needs_in};
 ghost use Rattle.steps.specs.Items.{Item, Nobody, The};
 ghost use Rattle.steps.specs.Commanded.{named, viewed};
 ghost use Rattle.steps.specs.Meanings.{meaning};
@@ -100,7 +100,7 @@ fn answer_set<C: Cell>(
     given: &[u8],
     answer: &mut [u8],
 ) -> Reply
-    requires { (is_named asked.kind ≡ true) × LegalAt (C.words table.old) slot.0 × DeskThere (C.words table.old) }
+    requires { (asked.kind ≡ kind_of asked.command) × (is_named asked.kind ≡ true) × LegalAt (C.words table.old) slot.0 × DeskThere (C.words table.old) }
     ensures on { OnSet (C.words table.old) slot.0 asked.kind asked.command given.now answer.old result (C.words table.new) answer.new }
     ensures rest { C.rest table.new ≡ C.rest table.old }
 {
@@ -123,7 +123,7 @@ fn answer_named<C: Cell>(
     given: &[u8],
     answer: &mut [u8],
 ) -> Reply
-    requires { (is_named asked.kind ≡ true) × (id.0 ≡ named_by asked.kind asked.command) }
+    requires { (asked.kind ≡ kind_of asked.command) × (is_named asked.kind ≡ true) × (id.0 ≡ named_by asked.kind asked.command) }
     ensures answered { (i : Item) → meaning i ≡ The (named_by asked.kind asked.command) (named asked.kind asked.command given.now (length answer.old)) → Answered (C.words table.old) i answer.old result (C.words table.new) answer.new }
     ensures rest { C.rest table.new ≡ C.rest table.old }
 {
@@ -152,7 +152,7 @@ fn answer_aggregate<C: Cell>(
     given: usize,
     answer: &mut [u8],
 ) -> Reply
-    requires { asked.kind ≡ Kind.ReadAggregate }
+    requires { (asked.kind ≡ Kind.ReadAggregate) × (Kind.ReadAggregate ≡ kind_of asked.command) }
     ensures answered { (i : Item) → meaning i ≡ Nobody (viewed Kind.ReadAggregate asked.command given (length answer.old)) → Answered (C.words table.old) i answer.old result (C.words table.new) answer.new }
     ensures rest { C.rest table.new ≡ C.rest table.old }
 {
@@ -172,7 +172,7 @@ fn answer_aggregate<C: Cell>(
 
 // Identify 04h: the whole page, written straight into the answer.
 fn answer_identify<C: Cell>(table: &[C], asked: Asked, given: usize, answer: &mut [u8]) -> Reply
-    requires { asked.kind ≡ Kind.Identify }
+    requires { (asked.kind ≡ Kind.Identify) × (Kind.Identify ≡ kind_of asked.command) }
     ensures { (i : Item) → meaning i ≡ Nobody (viewed Kind.Identify asked.command given (length answer.old)) → Answered (C.words table.now) i answer.old result (C.words table.now) answer.new }
 {
     if legal(table) {
@@ -237,7 +237,7 @@ fn answer_notices<C: Cell>(table: &[C], asked: Asked, given: usize, room: usize)
 }
 
 fn answer_view<C: Cell>(table: &mut [C], asked: Asked, given: usize, answer: &mut [u8]) -> Reply
-    requires { is_named asked.kind ≡ false }
+    requires { (asked.kind ≡ kind_of asked.command) × (is_named asked.kind ≡ false) }
     ensures answered { (i : Item) → meaning i ≡ Nobody (viewed asked.kind asked.command given (length answer.old)) → Answered (C.words table.old) i answer.old result (C.words table.new) answer.new }
     ensures rest { C.rest table.new ≡ C.rest table.old }
 {

@@ -1,4 +1,5 @@
-// A command with what is read off it once, before any table: its kind, and the status of the rows before the set is looked up.
+// A command with what is read off it once, before any table: its kind, and the status of the rows before the set is looked up. The
+// status functions promise as much of any other kind: so it is no field's business that the kind is the command's.
 ghost use Rattle.std.specs.Prelude.{◌≡◌};
 ghost use Rattle.replies.specs.Status.{first_of, status_no};
 ghost use Rattle.commands.specs.Shapes.{kind_of};
@@ -14,12 +15,12 @@ pub struct Asked {
     pub command: Command,
     pub kind: Kind,
     pub early: Result<(), Refusal>,
-    pub ghost is_kind: { kind ≡ kind_of command },
     pub ghost is_early: { status_no early ≡ first_of (early_lines command) },
 }
 
 pub fn ask(command: Command) -> Asked
-    ensures { result.command ≡ command }
+    ensures command { result.command ≡ command }
+    ensures kind { result.kind ≡ kind_of command }
 {
     let kind = kind_of(command);
     let early = early_status(kind, command);

@@ -1,11 +1,11 @@
 // A window's number, and the window of a number.
-ghost use Rattle.std.specs.Prelude.{◌≡◌};
+ghost use Rattle.std.specs.Prelude.{◌≡◌, ◌<◌};
 ghost use Rattle.record.specs.Windows.{window_no, window_of};
 
 use crate::Window;
 
 impl From<Window> for u64 {
-    ghost from_gives = { λ w n. n ≡ window_no w };
+    ghost from_gives = { λ w n. (n ≡ window_no w) × (n < 3) };
 
     fn from(w: Window) -> u64 {
         w as u64

@@ -16,7 +16,7 @@ pub hand_out-reply-requires : goal.hand_out-reply-requires
 hand_out-reply-requires g c =
     λ z.
     let s = c.args in
-    let f = view_fine ReadAggregate s.asked.command s.given (length s.answer.now) _ (sym c.requires ∙ s.asked.is_kind) (rw c.requires at c.view_status-status.ensures) z in
+    let f = view_fine ReadAggregate s.asked.command s.given (length s.answer.now) _ c.requires.1 (rw c.requires.0 at c.view_status-status.ensures) z in
     (omega (arith, f.start refl, c.offset_of-from.ensures), omega (arith, f.outward, c.needs_out-n.ensures))
 
 pub lift_if-requires : goal.lift_if-requires
@@ -27,7 +27,7 @@ returns-then-legal-clause-answered g c =
     let s = c.args in
     λ i m.
     aggregate_read _ i s.asked.command s.given s.answer.now m (sym c.legal.ensures ∙ c.if-legal.true) _
-    (unqueued ReadAggregate s.asked.command s.given (length s.answer.now) (g.C.Cell.words s.table.now) _ refl (rw c.requires at c.view_status-status.ensures)) _ _ _ _ _
+    (unqueued ReadAggregate s.asked.command s.given (length s.answer.now) (g.C.Cell.words s.table.now) _ refl (rw c.requires.0 at c.view_status-status.ensures)) _ _ _ _ _
     (rw (c.aggregate_of-page.ensures, c.offset_of-from.ensures, c.needs_out-n.ensures)) c.hand_out-reply.ensures
     c.beside.ensures (rw (c.retains.ensures, c.is_ok.ensures.value ∙ ok_is c.view_status-status.result) at c.lift_if.ensures.lifted)
 

@@ -6,15 +6,15 @@ use Rattle.card.proofs.InPlace.{listed_by}
 use Rattle.card.proofs.commanded.answer_set.Goals as goal
 
 pub change-new-requires-clause-given : goal.change-new-requires-clause-given
-change-new-requires-clause-given g c = (fine_on _ _ _ _ _ _ c.args.asked.is_kind (rw c.in-Ok.is at c.status_on.ensures) refl).inward
+change-new-requires-clause-given g c = (fine_on _ _ _ _ _ _ c.requires.0 (rw c.in-Ok.is at c.status_on.ensures) refl).inward
 
 pub hand_by-reply-requires : goal.hand_by-reply-requires
 hand_by-reply-requires g c =
-    let f = fine_on _ _ _ _ _ _ c.args.asked.is_kind (rw c.in-Ok.is at c.status_on.ensures) refl in
-    (c.requires.0, f.start, f.outward)
+    let f = fine_on _ _ _ _ _ _ c.requires.0 (rw c.in-Ok.is at c.status_on.ensures) refl in
+    (c.requires.1, f.start, f.outward)
 
 pub settle-requires : goal.settle-requires
-settle-requires g c = stored_desk _ _ _ _ c.change-new.ensures.stored.table c.requires.2
+settle-requires g c = stored_desk _ _ _ _ c.change-new.ensures.stored.table c.requires.3
 
 pub returns-in-Ok-clause-on : goal.returns-in-Ok-clause-on
 returns-in-Ok-clause-on g c =

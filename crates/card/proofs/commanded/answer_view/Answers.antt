@@ -9,13 +9,13 @@ pub answer_notices-requires : goal.answer_notices-requires
 answer_notices-requires g c = c.in-GetNotices.is
 
 pub answer_aggregate-requires : goal.answer_aggregate-requires
-answer_aggregate-requires g c = c.in-ReadAggregate.is
+answer_aggregate-requires g c = (c.in-ReadAggregate.is, rw c.in-ReadAggregate.is at c.requires.0)
 
 pub answer_request-requires : goal.answer_request-requires
 answer_request-requires g c = c.in-EventRequest.is
 
 pub answer_identify-requires : goal.answer_identify-requires
-answer_identify-requires g c = c.in-Identify.is
+answer_identify-requires g c = (c.in-Identify.is, rw c.in-Identify.is at c.requires.0)
 
 pub returns-in-SetNotices-clause-answered : goal.returns-in-SetNotices-clause-answered
 returns-in-SetNotices-clause-answered g c = rw c.in-SetNotices.is (λ i m. c.answer_turn.ensures.answered i _ refl m)
