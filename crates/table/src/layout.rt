@@ -67,12 +67,10 @@ fn field_words(r: Record) -> [u64; ROW]
 fn window_in(n: u64) -> Window
     ensures { result ≡ window_in n }
 {
-    if n == 0 {
-        Window::Off
-    } else if n == 1 {
-        Window::D
-    } else {
-        Window::N
+    match n {
+        0 => Window::Off,
+        1 => Window::D,
+        _ => Window::N,
     }
 }
 
@@ -120,7 +118,7 @@ fn notes_at(a: [u64; ROW]) -> Notes
 {
     let events = events_in(a[23]);
     Notes {
-        events: events,
+        events,
         listed: a[24] == 1,
     }
 }
@@ -132,9 +130,9 @@ pub fn record_of(a: [u64; ROW]) -> Record
     let state = state_at(a);
     let notes = notes_at(a);
     Record {
-        attributes: attributes,
-        state: state,
-        notes: notes,
+        attributes,
+        state,
+        notes,
     }
 }
 

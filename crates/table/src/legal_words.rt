@@ -39,8 +39,7 @@ fn statics_legal(a: [u64; ROW]) -> bool
 fn within_bits(x: u64) -> bool
     ensures { result ≡ within_bits x }
 {
-    let e = events_in(x);
-    x == bits_of(e)
+    x == bits_of(events_in(x))
 }
 
 // The limit where it holds, or the one elsewhere, so that the test against it needs no branch.
@@ -82,12 +81,5 @@ fn notes_legal(a: [u64; ROW]) -> bool
 pub fn follows(before: u64, a: [u64; ROW]) -> bool
     ensures { result ≡ legal_after before a }
 {
-    if before < a[0] {
-        if statics_legal(a) {
-            let changing = changing_legal(a);
-            let notes = notes_legal(a);
-            return changing & notes;
-        }
-    }
-    false
+    before < a[0] && statics_legal(a) && changing_legal(a) & notes_legal(a)
 }

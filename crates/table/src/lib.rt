@@ -89,13 +89,12 @@ pub fn count_of<C: Cell>(table: &[C]) -> usize
 pub fn extent(n: usize, room: usize) -> Option<usize>
     ensures { result ≡ extent_of n room }
 {
-    if (1 <= n) & (n <= MAX_SETS) {
+    if (1..=MAX_SETS).contains(&n) {
         let end = HEADER + n * ROW;
-        if end <= room {
-            return Some(end);
-        }
+        (end <= room).then_some(end)
+    } else {
+        None
     }
-    None
 }
 
 // The desk's words.
@@ -141,10 +140,8 @@ pub fn settle<C: Cell>(table: &mut [C], new: bool) -> Notice
 {
     if new {
         let s = desk::settle(desk_of(table), true);
-        let words = s.words;
-        let notice = s.notice;
-        put_desk(table, words);
-        return notice;
+        put_desk(table, s.words);
+        return s.notice;
     }
     None
 }
@@ -156,10 +153,8 @@ pub fn queue<C: Cell>(table: &mut [C], id: u16) -> Notice
     ensures rest { C.rest table.new ≡ C.rest table.old }
 {
     let s = desk::queue_and_settle(desk_of(table), id);
-    let words = s.words;
-    let notice = s.notice;
-    put_desk(table, words);
-    notice
+    put_desk(table, s.words);
+    s.notice
 }
 
 // Feature 0Bh.
@@ -169,10 +164,8 @@ pub fn turn<C: Cell>(table: &mut [C], on: bool) -> Notice
     ensures rest { C.rest table.new ≡ C.rest table.old }
 {
     let s = desk::turn_and_settle(desk_of(table), on);
-    let words = s.words;
-    let notice = s.notice;
-    put_desk(table, words);
-    notice
+    put_desk(table, s.words);
+    s.notice
 }
 
 // A read of page 0Bh with Retain 0.
@@ -181,8 +174,7 @@ pub fn lift<C: Cell>(table: &mut [C])
     ensures desk { C.words table.new ≡ with_desk (C.words table.old) (lifted (desk_at (C.words table.old))) }
     ensures rest { C.rest table.new ≡ C.rest table.old }
 {
-    let words = desk::lift(desk_of(table));
-    put_desk(table, words);
+    put_desk(table, desk::lift(desk_of(table)));
 }
 
 fn fits<C: Cell>(table: &[C]) -> bool
@@ -214,12 +206,7 @@ fn rows_legal<C: Cell>(table: &[C], n: usize) -> bool
 pub fn legal<C: Cell>(table: &[C]) -> bool
     ensures { result ≡ legal_table (C.words table.now) }
 {
-    if fits(table) {
-        if desk::legal(desk_of(table)) {
-            return rows_legal(table, count_of(table));
-        }
-    }
-    false
+    fits(table) && desk::legal(desk_of(table)) && rows_legal(table, count_of(table))
 }
 
 // The identifier's word of a slot.
@@ -242,6 +229,8 @@ pub fn id_of<C: Cell>(table: &[C], slot: Slot) -> SetId
 // lies in slot s - 1 or before it, and in s - 1 itself where no identifier below s is left out. If there is such a slot, the first
 // look is there. After that so many slots are `left`, from `from` on, that may hold the set. Each look is at the middle one, since
 // what it finds tells of a half of them.
+// It is written out since the library's binary search does not promise how many looks it takes, which LOOKS and the must-fail edits
+// one_look_fewer, first_miss_taken_as_none and walk_from_slot_to_slot hold.
 pub fn find<C: Cell>(table: &[C], id: SetId) -> Option<Slot>
     requires { Legal (C.words table.now) }
     ensures { result ≡ find_in (C.words table.now) id.0 }
