@@ -15,7 +15,6 @@ use Rattle.octets.proofs.Runs.{sets_self, drop_sets}
 use Rattle.octets.proofs.PutAndGet.{length_bytes}
 use Rattle.octets.proofs.Below.{below_rest, part_below}
 
-
 pub in_turn : (words bytes : List ℕ) (at i n : ℕ) → i < n
     → sets (set words i (number_of (part bytes at word_size))) (i + 1) (words_from bytes (at + word_size) (n - (i + 1))) ≡ sets words i (words_from bytes at (n - i))
 in_turn words bytes at i n h = let e : n - i ≡ suc (n - (i + 1)) = omega arith in rw (e, add-one)

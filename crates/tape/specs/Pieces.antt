@@ -92,6 +92,11 @@ turn_at Ended n words bodies left last = turn Ended n 0 false words bodies []
 abbrev pub line_room : ℕ
 line_room = status_digits + 1 + dword_digits + 1 + 2 * answer_size + 1 + notice_room
 
+-- what a line shows: the text that is written on it, for which there is room
+pub record Shows (line shown : List ℕ) : Type 0 where
+  pub text : shown ≡ line
+  pub room : length line ≤ line_room
+
 -- a call stops after so many turns too, so that it ends whatever it is lent
 abbrev pub most_turns : ℕ
 most_turns = 65536

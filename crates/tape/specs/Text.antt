@@ -19,6 +19,10 @@ space = 32
 abbrev pub newline : ℕ
 newline = 10
 
+-- a line with no text on it yet
+abbrev pub no_text : List ℕ
+no_text = []
+
 -- ---- numbers
 
 -- the sign of 0, and what is added to 10 to give that of A

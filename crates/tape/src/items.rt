@@ -26,7 +26,7 @@ const ANSWER_SIZE: usize = 4096;
 
 // A kind of item.
 #[derive(Clone, Copy, PartialEq, Eq)]
-pub enum Kind {
+pub(crate) enum Kind {
     Command,
     CommandWithData,
     Reads,
@@ -37,7 +37,7 @@ pub enum Kind {
 
 impl Kind {
     // The kind with a number; none where it is no item's.
-    pub fn of(number: u8) -> Option<Kind>
+    pub(crate) fn of(number: u8) -> Option<Kind>
         ensures some { IfSome result (λ kind. kind_number kind ≡ number) }
         ensures none { IsNone result → item_size number ≡ 0 }
     {
@@ -53,7 +53,7 @@ impl Kind {
     }
 
     // How long an item's body is.
-    pub fn size(self) -> usize
+    pub(crate) fn size(self) -> usize
         ensures { (result ≡ item_size (kind_number self)) × (0 < result) }
     {
         match self {

@@ -1,8 +1,8 @@
 // Text that is being written: a line, and room for the longest.
 ghost use Rattle.std.specs.Prelude.{◌≡◌, ℕ, ◌+◌, ◌*◌, ◌<◌, ◌≤◌, List, [], ◌∷◌, ◌++◌, length, take};
 ghost use Rattle.std.proofs.lemmas.List.Edits.{sets};
-ghost use Rattle.tape.specs.Text.{digit_of, digits_of, places, decimal_of, hex_of, data_hex, data_text};
-ghost use Rattle.tape.specs.Pieces.{line_room};
+ghost use Rattle.tape.specs.Text.{digit_of, digits_of, places, decimal_of, hex_of, data_hex, data_text, no_text};
+ghost use Rattle.tape.specs.Pieces.{line_room, Shows};
 
 use std::marker::Model;
 
@@ -26,7 +26,7 @@ impl Model for Line {
 
 impl Line {
     pub fn new() -> Line
-        ensures { result ≡ [] }
+        ensures { result ≡ no_text }
     {
         Line {
             bytes: [0; LINE],
@@ -34,20 +34,20 @@ impl Line {
         }
     }
 
-    pub fn clear(&mut self)
+    pub(crate) fn clear(&mut self)
         ensures { self.new ≡ [] }
     {
         self.len = 0;
     }
 
-    pub fn len(&self) -> usize
+    pub(crate) fn len(&self) -> usize
         ensures { result ≡ length self.now }
     {
         self.len
     }
 
     pub fn as_bytes(&self) -> &[u8]
-        ensures { (result.now ≡ self.now) × (length self.now ≤ line_room) }
+        ensures { Shows self.now result.now }
     {
         &self.bytes[..self.len]
     }
