@@ -68,35 +68,6 @@ pub fn after_clearing(r: Record) -> Record
     settle(r, clearing_read(r.state))
 }
 
-fn after_still(r: Record) -> Record
-    ensures { result ≡ settled r (still r.state) }
-{
-    settle(r, keep_still(r.state))
-}
-
-fn after_read(r: Record, c: Command) -> Record
-    ensures { result ≡ settled r (if retain c then still r.state else clearing_read r.state) }
-{
-    if retains(c) {
-        after_still(r)
-    } else {
-        after_clearing(r)
-    }
-}
-
-// The record after any command that is carried out. Only Set Features 13h looks at the data in.
-pub fn after_command(r: Record, k: Kind, c: Command, given: &[u8]) -> Record
-    requires { needs_in k ≤ length given.now }
-    ensures { result ≡ after_on k c given.now r }
-{
-    match k {
-        Kind::SetConfig => after_config(r, c, given),
-        Kind::SetWindow => after_window(r, c),
-        Kind::ReadLatency => after_read(r, c),
-        _ => after_still(r),
-    }
-}
-
 // ---- dword 0 and the page, from the record before it is changed
 
 fn mode_no(s: State) -> u32

@@ -1,6 +1,6 @@
 // What a command does and answers, from its 64 bytes.
 ghost use Rattle.std.specs.Prelude.{◌≡◌, true, false, List, ℕ, ◌≤◌, length, if◌then◌else◌};
-ghost use Rattle.replies.specs.Answers.{told_no, to_no};
+ghost use Rattle.replies.specs.Answers.{reply_of, told_no, to_no};
 ghost use Rattle.pages.specs.Features.{feature_size};
 ghost use Rattle.desk.specs.Desk.{lifted};
 ghost use Rattle.table.specs.Layout.{record_of};
@@ -27,7 +27,7 @@ use octets::cells::Cell;
 use pages::identify::IDENTIFY_SIZE;
 use record::event::newly_listed;
 use record::{Record, SetId, Slot};
-use replies::{Refusal, Reply, awaiting, beside, done, give, refuse};
+use replies::{Refusal, Reply, awaiting, beside, done, give, reply_of};
 use table::{enter, legal, lift, load, on_at, queue, settle, store, store_moved, turn, waiting_at};
 
 // Each of these answers whether the set was listed by it.
@@ -92,6 +92,8 @@ fn change<C: Cell>(
     }
 }
 
+// An item that is refused is an Err until all is done; `reply_of` makes its reply.
+
 // A command that names a set, which was found.
 fn answer_set<C: Cell>(
     table: &mut [C],
@@ -99,20 +101,16 @@ fn answer_set<C: Cell>(
     asked: Asked,
     given: &[u8],
     answer: &mut [u8],
-) -> Reply
+) -> Result<Reply, Refusal>
     requires { (asked.kind ≡ kind_of asked.command) × (is_named asked.kind ≡ true) × LegalAt (C.words table.old) slot.0 × DeskThere (C.words table.old) }
-    ensures on { OnSet (C.words table.old) slot.0 asked.kind asked.command given.now answer.old result (C.words table.new) answer.new }
+    ensures on { OnSet (C.words table.old) slot.0 asked.kind asked.command given.now answer.old (reply_of result) (C.words table.new) answer.new }
     ensures rest { C.rest table.new ≡ C.rest table.old }
 {
     let r = load(table, slot);
-    match status_on(asked, given.len(), answer.len(), r) {
-        Ok(()) => {
-            let new = change(table, slot, asked.kind, asked.command, given, r);
-            let reply = hand_by(asked.kind, asked.command, r, answer);
-            beside(reply, settle(table, new))
-        }
-        Err(refusal) => refuse(refusal),
-    }
+    status_on(asked, given.len(), answer.len(), r)?;
+    let new = change(table, slot, asked.kind, asked.command, given, r);
+    let reply = hand_by(asked.kind, asked.command, r, answer);
+    Ok(beside(reply, settle(table, new)))
 }
 
 // A command that names a set.
@@ -122,13 +120,13 @@ fn answer_named<C: Cell>(
     asked: Asked,
     given: &[u8],
     answer: &mut [u8],
-) -> Reply
+) -> Result<Reply, Refusal>
     requires { (asked.kind ≡ kind_of asked.command) × (is_named asked.kind ≡ true) × (id.0 ≡ named_by asked.kind asked.command) }
-    ensures answered { (i : Item) → meaning i ≡ The (named_by asked.kind asked.command) (named asked.kind asked.command given.now (length answer.old)) → Answered (C.words table.old) i answer.old result (C.words table.new) answer.new }
+    ensures answered { (i : Item) → meaning i ≡ The (named_by asked.kind asked.command) (named asked.kind asked.command given.now (length answer.old)) → Answered (C.words table.old) i answer.old (reply_of result) (C.words table.new) answer.new }
     ensures rest { C.rest table.new ≡ C.rest table.old }
 {
     match enter(table, id) {
-        Err(absent) => refuse(refusal_of(absent, unknown_refusal(asked))),
+        Err(absent) => Err(refusal_of(absent, unknown_refusal(asked))),
         Ok(slot) => answer_set(table, slot, asked, given, answer),
     }
 }
@@ -151,94 +149,98 @@ fn answer_aggregate<C: Cell>(
     asked: Asked,
     given: usize,
     answer: &mut [u8],
-) -> Reply
+) -> Result<Reply, Refusal>
     requires { (asked.kind ≡ Kind.ReadAggregate) × (Kind.ReadAggregate ≡ kind_of asked.command) }
-    ensures answered { (i : Item) → meaning i ≡ Nobody (viewed Kind.ReadAggregate asked.command given (length answer.old)) → Answered (C.words table.old) i answer.old result (C.words table.new) answer.new }
+    ensures answered { (i : Item) → meaning i ≡ Nobody (viewed Kind.ReadAggregate asked.command given (length answer.old)) → Answered (C.words table.old) i answer.old (reply_of result) (C.words table.new) answer.new }
     ensures rest { C.rest table.new ≡ C.rest table.old }
 {
-    if legal(table) {
-        let c = asked.command;
-        let status = view_status(asked, given, answer.len());
-        let page = aggregate_of(table);
-        let from = offset_of(c) as usize;
-        let n = needs_out(Kind::ReadAggregate, c) as usize;
-        let reply = replies::hand_out(status, 0, &page, from, n, answer);
-        lift_if(table, status.is_ok() & !retains(c));
-        beside(reply, None)
-    } else {
-        refuse(Refusal::BadTable)
+    if !legal(table) {
+        return Err(Refusal::BadTable);
     }
+    view_status(asked, given, answer.len())?;
+    let c = asked.command;
+    let page = aggregate_of(table);
+    let from = offset_of(c) as usize;
+    let n = needs_out(Kind::ReadAggregate, c) as usize;
+    let reply = replies::hand_out(Ok(()), 0, &page, from, n, answer);
+    lift_if(table, !retains(c));
+    Ok(beside(reply, None))
 }
 
 // Identify 04h: the whole page, written straight into the answer.
-fn answer_identify<C: Cell>(table: &[C], asked: Asked, given: usize, answer: &mut [u8]) -> Reply
+fn answer_identify<C: Cell>(
+    table: &[C],
+    asked: Asked,
+    given: usize,
+    answer: &mut [u8],
+) -> Result<Reply, Refusal>
     requires { (asked.kind ≡ Kind.Identify) × (Kind.Identify ≡ kind_of asked.command) }
-    ensures { (i : Item) → meaning i ≡ Nobody (viewed Kind.Identify asked.command given (length answer.old)) → Answered (C.words table.now) i answer.old result (C.words table.now) answer.new }
+    ensures { (i : Item) → meaning i ≡ Nobody (viewed Kind.Identify asked.command given (length answer.old)) → Answered (C.words table.now) i answer.old (reply_of result) (C.words table.now) answer.new }
 {
-    if legal(table) {
-        match view_status(asked, given, answer.len()) {
-            Ok(()) => {
-                set_list_onto(table, asked_by(asked.command), answer);
-                give(0, IDENTIFY_SIZE)
-            }
-            Err(refusal) => refuse(refusal),
-        }
-    } else {
-        refuse(Refusal::BadTable)
+    if !legal(table) {
+        return Err(Refusal::BadTable);
     }
+    view_status(asked, given, answer.len())?;
+    set_list_onto(table, asked_by(asked.command), answer);
+    Ok(give(0, IDENTIFY_SIZE))
 }
 
 // Asynchronous Event Request.
-fn answer_request<C: Cell>(table: &mut [C], asked: Asked) -> Reply
+fn answer_request<C: Cell>(table: &mut [C], asked: Asked) -> Result<Reply, Refusal>
     requires { asked.kind ≡ Kind.EventRequest }
-    ensures answered { (i : Item) (given : ℕ) (before : List ℕ) → meaning i ≡ Nobody (viewed Kind.EventRequest asked.command given (length before)) → Answered (C.words table.old) i before result (C.words table.new) before }
+    ensures answered { (i : Item) (given : ℕ) (before : List ℕ) → meaning i ≡ Nobody (viewed Kind.EventRequest asked.command given (length before)) → Answered (C.words table.old) i before (reply_of result) (C.words table.new) before }
     ensures rest { C.rest table.new ≡ C.rest table.old }
 {
-    if legal(table) {
-        let waiting = waiting_at(table);
-        match request_status(asked, waiting) {
-            Ok(()) => beside(awaiting(), queue(table, identifier_of(asked.command))),
-            Err(refusal) => refuse(refusal),
-        }
-    } else {
-        refuse(Refusal::BadTable)
+    if !legal(table) {
+        return Err(Refusal::BadTable);
     }
+    request_status(asked, waiting_at(table))?;
+    Ok(beside(awaiting(), queue(table, identifier_of(asked.command))))
 }
 
 // Set Features 0Bh.
-fn answer_turn<C: Cell>(table: &mut [C], asked: Asked, given: usize, room: usize) -> Reply
+fn answer_turn<C: Cell>(
+    table: &mut [C],
+    asked: Asked,
+    given: usize,
+    room: usize,
+) -> Result<Reply, Refusal>
     requires { asked.kind ≡ Kind.SetNotices }
-    ensures answered { (i : Item) (before : List ℕ) → length before ≡ room → meaning i ≡ Nobody (viewed Kind.SetNotices asked.command given room) → Answered (C.words table.old) i before result (C.words table.new) before }
+    ensures answered { (i : Item) (before : List ℕ) → length before ≡ room → meaning i ≡ Nobody (viewed Kind.SetNotices asked.command given room) → Answered (C.words table.old) i before (reply_of result) (C.words table.new) before }
     ensures rest { C.rest table.new ≡ C.rest table.old }
 {
-    if legal(table) {
-        match view_status(asked, given, room) {
-            Ok(()) => beside(done(), turn(table, turns_on(asked.command))),
-            Err(refusal) => refuse(refusal),
-        }
-    } else {
-        refuse(Refusal::BadTable)
+    if !legal(table) {
+        return Err(Refusal::BadTable);
     }
+    view_status(asked, given, room)?;
+    Ok(beside(done(), turn(table, turns_on(asked.command))))
 }
 
 // Get Features 0Bh.
-fn answer_notices<C: Cell>(table: &[C], asked: Asked, given: usize, room: usize) -> Reply
+fn answer_notices<C: Cell>(
+    table: &[C],
+    asked: Asked,
+    given: usize,
+    room: usize,
+) -> Result<Reply, Refusal>
     requires { asked.kind ≡ Kind.GetNotices }
-    ensures { (i : Item) (before : List ℕ) → length before ≡ room → meaning i ≡ Nobody (viewed Kind.GetNotices asked.command given room) → Answered (C.words table.now) i before result (C.words table.now) before }
+    ensures { (i : Item) (before : List ℕ) → length before ≡ room → meaning i ≡ Nobody (viewed Kind.GetNotices asked.command given room) → Answered (C.words table.now) i before (reply_of result) (C.words table.now) before }
 {
-    if legal(table) {
-        match view_status(asked, given, room) {
-            Ok(()) => give(notices_no(on_at(table)), 0),
-            Err(refusal) => refuse(refusal),
-        }
-    } else {
-        refuse(Refusal::BadTable)
+    if !legal(table) {
+        return Err(Refusal::BadTable);
     }
+    view_status(asked, given, room)?;
+    Ok(give(notices_no(on_at(table)), 0))
 }
 
-fn answer_view<C: Cell>(table: &mut [C], asked: Asked, given: usize, answer: &mut [u8]) -> Reply
+fn answer_view<C: Cell>(
+    table: &mut [C],
+    asked: Asked,
+    given: usize,
+    answer: &mut [u8],
+) -> Result<Reply, Refusal>
     requires { (asked.kind ≡ kind_of asked.command) × (is_named asked.kind ≡ false) }
-    ensures answered { (i : Item) → meaning i ≡ Nobody (viewed asked.kind asked.command given (length answer.old)) → Answered (C.words table.old) i answer.old result (C.words table.new) answer.new }
+    ensures answered { (i : Item) → meaning i ≡ Nobody (viewed asked.kind asked.command given (length answer.old)) → Answered (C.words table.old) i answer.old (reply_of result) (C.words table.new) answer.new }
     ensures rest { C.rest table.new ≡ C.rest table.old }
 {
     match asked.kind {
@@ -248,7 +250,23 @@ fn answer_view<C: Cell>(table: &mut [C], asked: Asked, given: usize, answer: &mu
         Kind::EventRequest => answer_request(table, asked),
         Kind::Identify => answer_identify(table, asked, given, answer),
         // the others name a set
-        _ => done(),
+        _ => Ok(done()),
+    }
+}
+
+fn carry_out<C: Cell>(
+    table: &mut [C],
+    bytes: &[u8],
+    given: &[u8],
+    answer: &mut [u8],
+) -> Result<Reply, Refusal>
+    ensures answered { Answered (C.words table.old) (Item.command bytes.now given.now (length answer.old)) answer.old (reply_of result) (C.words table.new) answer.new }
+    ensures rest { C.rest table.new ≡ C.rest table.old }
+{
+    let asked = ask(command_in(bytes));
+    match named_by(asked.kind, asked.command) {
+        Some(id) => answer_named(table, id, asked, given, answer),
+        None => answer_view(table, asked, given.len(), answer),
     }
 }
 
@@ -257,11 +275,7 @@ pub fn command<C: Cell>(table: &mut [C], bytes: &[u8], given: &[u8], answer: &mu
     ensures answered { Answered (C.words table.old) (Item.command bytes.now given.now (length answer.old)) answer.old result (C.words table.new) answer.new }
     ensures rest { C.rest table.new ≡ C.rest table.old }
 {
-    let asked = ask(command_in(bytes));
-    match named_by(asked.kind, asked.command) {
-        Some(id) => answer_named(table, id, asked, given, answer),
-        None => answer_view(table, asked, given.len(), answer),
-    }
+    reply_of(carry_out(table, bytes, given, answer))
 }
 
 // The same, handing back that part of the answer buffer which was written.

@@ -125,14 +125,13 @@ pub fn ticks<C: Cell>(table: &mut [C], t: u32, answer: &mut [u8]) -> Reply
     ensures answered { Answered (C.words table.old) (Item.tick t (length answer.old)) answer.old result (C.words table.new) answer.new }
     ensures rest { C.rest table.new ≡ C.rest table.old }
 {
-    if legal(table) {
-        if DAY_MS < t {
-            return refuse(Refusal::TickTooLong);
-        }
-        let n = table::count_of(table);
-        let new = tick_all(table, n, t);
-        beside(done(), table::settle(table, new))
-    } else {
-        refuse(Refusal::BadTable)
+    if !legal(table) {
+        return refuse(Refusal::BadTable);
     }
+    if DAY_MS < t {
+        return refuse(Refusal::TickTooLong);
+    }
+    let n = table::count_of(table);
+    let new = tick_all(table, n, t);
+    beside(done(), table::settle(table, new))
 }

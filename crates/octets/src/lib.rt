@@ -2,7 +2,6 @@
 // Nothing here knows of the card.
 #![tactic(auto)]
 
-pub mod casts;
 pub mod cells;
 pub mod numbers;
 pub mod words;

@@ -1,4 +1,2 @@
 pub mod Words
 pub mod WrittenBack
-pub mod EveryRow
-pub mod AtDesk

@@ -1,11 +1,11 @@
 -- 01: "there the table passes as its words' little-endian bytes"
-use Rattle.std.specs.Prelude.{◌≡◌, true, List, [], ◌∷◌, ℕ, suc, ◌+◌, ◌*◌, ◌/◌, ◌≤◌, length}
+use Rattle.std.specs.Prelude.{◌≡◌, List, ℕ, ◌/◌, length}
 use Rattle.octets.specs.Words.{word_size, words_from, put_words}
 use Rattle.replies.specs.Answers.{Notice}
 use Rattle.desk.specs.Desk.{Told}
 use Rattle.record.specs.declared.Record.{Record}
 use Rattle.table.specs.Layout.{words_of, record_of}
-use Rattle.table.specs.Table.{with_desk, row_start, row, put, legal_row}
+use Rattle.table.specs.Table.{with_desk, row, put}
 
 -- the words of a region: of a length that is no multiple of 8 the whole words count, and the rest is past the table
 abbrev pub table_in : List ℕ → List ℕ
@@ -23,18 +23,6 @@ record_at region slot = record_of (row (table_in region) slot)
 
 abbrev pub with_record : List ℕ → ℕ → Record → List ℕ
 with_record region slot r = table_out region (put (table_in region) slot (words_of r))
-
--- a slot that lies in the region and holds a legal row
-pub record LegalAt (region : List ℕ) (slot : ℕ) : Type 0 where
-  pub room : row_start (slot + 1) ≤ length region / word_size
-  pub legal : legal_row (row (table_in region) slot) ≡ true
-
--- ---- many slots
-
--- the region with these records in the slots from one on
-abbrev pub with_records : List ℕ → ℕ → List Record → List ℕ
-with_records region slot [] = region
-with_records region slot (r ∷ rs) = with_records (put_words region (row_start slot * word_size) (words_of r)) (suc slot) rs
 
 -- ---- the desk
 

@@ -1,7 +1,8 @@
 -- What is answered, and what the caller's buffer holds then.
-use Rattle.std.specs.Prelude.{◌≡◌, Option, None, Some, List, [], ◌∷◌, ℕ, ◌-◌, ◌≤◌, eqb, length, take, drop, if◌then◌else◌}
+use Rattle.std.specs.Prelude.{◌≡◌, Option, None, Some, Result, Ok, Err, List, [], ◌∷◌, ℕ, ◌-◌, ◌≤◌, eqb, length, take, drop, if◌then◌else◌}
 use Rattle.std.proofs.lemmas.List.Edits.{sets}
-use Rattle.replies.specs.Numbers.{success, request_waits}
+use Rattle.replies.specs.Numbers.{success, request_waits, number}
+use Rattle.replies.specs.declared.Refusal.{Refusal}
 use Rattle.replies.specs.declared.Reply.{Reply}
 
 -- what may go beside an answer: nothing, or a notice, which completes the waiting request with this identifier
@@ -54,6 +55,11 @@ awaiting = replying request_waits 0 0 None
 -- a reply with this notice beside it
 abbrev pub beside_of : Reply → Notice → Reply
 beside_of r notice = replying r.status r.dword r.len notice
+
+-- what an item answers in all, where code has a reply or a refusal
+abbrev pub reply_of : Result Reply Refusal → Reply
+reply_of (Ok r) = r
+reply_of (Err r) = refusing (number r)
 
 -- ---- 02: "that request completes with dword 0 = 000B0402h, given beside the item's own answer with the request's identifier"
 

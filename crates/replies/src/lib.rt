@@ -7,7 +7,7 @@ ghost use Rattle.std.specs.Prelude.{◌≡◌, ◌≤◌, length};
 ghost use Rattle.octets.specs.Octets.{padded};
 ghost use Rattle.replies.specs.Numbers.{number};
 ghost use Rattle.replies.specs.Status.{first_of, lines_of, status_no};
-ghost use Rattle.replies.specs.Answers.{answered, replying, refusing, giving, done, awaiting, beside_of, told_no, to_no, notice_of, notice_no, Replied};
+ghost use Rattle.replies.specs.Answers.{answered, replying, refusing, giving, done, awaiting, beside_of, reply_of, told_no, to_no, notice_of, notice_no, Replied};
 
 use crate::numbers::{REQUEST_WAITS, SUCCESS};
 
@@ -72,6 +72,13 @@ pub fn refuse(r: Refusal) -> Reply
     bare(u16::from(r))
 }
 
+// What an item answers in all: a refusal is its number, and nothing else.
+pub fn reply_of(answered: Result<Reply, Refusal>) -> Reply
+    ensures { result ≡ reply_of answered }
+{
+    answered.unwrap_or_else(refuse)
+}
+
 // Carried out, with dword 0 and so many bytes of data.
 pub fn give(dword: u32, len: usize) -> Reply
     ensures { result ≡ giving dword len }
@@ -118,7 +125,7 @@ pub fn to_no(notice: Notice) -> u16
     notice.unwrap_or(0)
 }
 
-// And back.
+// And back, for who has them from a reply to C.
 pub fn notice_of(told: u16, to: u16) -> Notice
     ensures { result ≡ notice_of told to }
 {

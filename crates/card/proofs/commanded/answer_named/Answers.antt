@@ -1,4 +1,4 @@
-use mathlib.Core.Path.{ap, ◌∙◌}
+use mathlib.Core.Path.{ap}
 use Rattle.replies.specs.Answers.{refusing}
 use Rattle.by_value.proofs.Told.{entered_desk}
 use Rattle.by_value.proofs.NamedCommands.{named_absent, named_here}
@@ -12,7 +12,7 @@ answer_set-requires g c =
 pub returns-in-Err-clause-answered : goal.returns-in-Err-clause-answered
 returns-in-Err-clause-answered g c =
     let s = c.args in
-    λ i m. named_absent (g.C.Cell.words s.table.now) s.asked.kind s.asked.command s.given.now s.answer.now _ (rw c.requires.2 at c.enter.ensures) i m _ _ _ c.in-Err.is c.unknown_refusal.ensures (c.refuse.ensures ∙ ap refusing c.refusal_of.ensures)
+    λ i m. named_absent (g.C.Cell.words s.table.now) s.asked.kind s.asked.command s.given.now s.answer.now _ (rw c.requires.2 at c.enter.ensures) i m _ _ _ c.in-Err.is c.unknown_refusal.ensures (ap refusing c.refusal_of.ensures)
 
 pub returns-in-Ok-clause-answered : goal.returns-in-Ok-clause-answered
 returns-in-Ok-clause-answered g c =

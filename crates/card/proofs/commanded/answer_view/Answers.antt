@@ -1,5 +1,4 @@
-use mathlib.Core.Path.{refl, sym}
-use mathlib.Core.Bool.{false≢true}
+use mathlib.Core.Path.{refl}
 use Rattle.card.proofs.commanded.answer_view.Goals as goal
 
 pub answer_turn-requires : goal.answer_turn-requires

@@ -2,7 +2,7 @@ use lib.ListN.{length}
 use mathlib.Core.Path.{◌∙◌}
 use Rattle.steps.specs.Items.{command}
 use Rattle.by_value.proofs.Viewed.{is_named_lem, is_viewed}
-use Rattle.card.proofs.commanded.command.Goals as goal
+use Rattle.card.proofs.commanded.carry_out.Goals as goal
 
 pub answer_named-requires : goal.answer_named-requires
 answer_named-requires g c = (rw (← c.ask-asked.ensures.command) at c.ask-asked.ensures.kind, c.in-Some.ensures.0, c.in-Some.ensures.1)
