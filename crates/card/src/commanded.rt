@@ -69,7 +69,8 @@ fn window_at<C: Cell>(table: &mut [C], slot: Slot, c: Command, r: Record) -> boo
     newly_listed(r, x)
 }
 
-// The record of a slot after a command that is carried out. Each kind stores by itself, and only what it can change.
+// The record of a slot after a command that is carried out. Each kind stores by itself, and only what it can change: a match, and no closure
+// for each kind, since they differ in what they are handed.
 fn change<C: Cell>(
     table: &mut [C],
     slot: Slot,

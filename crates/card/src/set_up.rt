@@ -25,7 +25,7 @@ fn write_rows<C: Cell>(table: &mut [C], bytes: &[u8], n: usize)
     }
 }
 
-// Nothing is written unless all is well.
+// Nothing is written unless all is well. The status is its number, since C and the printout have no other.
 pub fn set_up<C: Cell>(table: &mut [C], bytes: &[u8]) -> u16
     ensures done { SetUp bytes.now (C.words table.old) (C.words table.new) result }
     ensures rest { C.rest table.new ≡ C.rest table.old }

@@ -48,7 +48,7 @@ pub enum Whom {
     LogSet,
 }
 
-// A row of the table of commands.
+// A row of the table of commands. Each bool is whether a row of the status table looks at it, and stands beside no value.
 #[derive(Clone, Copy)]
 pub struct Shape {
     pub opcode: u32,

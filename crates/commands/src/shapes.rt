@@ -11,6 +11,8 @@ use pages::identify::IDENTIFY_SIZE;
 use pages::latency::LATENCY_SIZE;
 use record::SetId;
 
+// The document's numbers of opcodes, and of FIDs, log pages and CNS: what a command's bytes hold, whatever its kind.
+
 pub(crate) const LOG: u32 = 0x02;
 
 const IDENTIFY: u32 = 0x06;

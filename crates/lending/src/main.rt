@@ -38,14 +38,14 @@ fn media_in(head: &[u8; HEAD]) -> Media {
 fn row_in(table: &[u64]) -> [u64; ROW] {
     let mut row = [0u64; ROW];
     if table.len() == ROW {
-        octets::copy_words(&mut row, 0, table);
+        row.copy_from_slice(table);
     }
     row
 }
 
 fn put_row(table: &mut [u64], row: &[u64; ROW]) {
     if table.len() == ROW {
-        octets::copy_words(table, 0, row);
+        table.copy_from_slice(row);
     }
 }
 

@@ -45,7 +45,7 @@ pub struct Place {
     pub width: usize,
 }
 
-// The page, or what lies on it, starts at `from`.
+// The page, or what lies on it, starts at `from`. A reader for each width, since each answers a type of its own.
 impl Place {
     pub fn put(self, page: &mut [u8], from: usize, v: u64)
         requires { from + self.at + self.width ≤ length page.old }
@@ -94,15 +94,8 @@ pub fn clear(buf: &mut [u8], n: usize)
     buf[..n].fill(0);
 }
 
-// A run of words, copied to place `at`.
-pub fn copy_words(to: &mut [u64], at: usize, src: &[u64])
-    requires { at + length src.now ≤ length to.old }
-    ensures { to.new ≡ sets to.old at src.now }
-{
-    to[at..at + src.len()].copy_from_slice(src);
-}
-
-// Numbers put at the places of what starts at `from`, in order.
+// Numbers put at the places of what starts at `from`, in order. The places are a page's constants, which its reader has too: so they
+// stand in a list of their own, beside that of the numbers.
 pub fn fill(page: &mut [u8], from: usize, places: &[Place], values: &[u64])
     requires { Within (length page.old) from places.now }
     ensures { page.new ≡ puts page.old (fields_at (places_from from places.now) values.now) }

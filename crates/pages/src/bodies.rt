@@ -2,8 +2,7 @@
 ghost use Rattle.std.specs.Prelude.{◌≡◌, ◌+◌, ◌%◌, ◌^◌, ◌≤◌, length};
 ghost use Rattle.octets.specs.Pages.{read_at};
 ghost use Rattle.record.specs.Legal.{legal_sizes, legal_attributes};
-ghost use Rattle.pages.specs.Capacities.{capacity_in};
-ghost use Rattle.pages.specs.Bodies.{body_size, body_total, body_unallocated, body, attributes_in, kept_of};
+ghost use Rattle.pages.specs.Bodies.{body_size, body, attributes_in, kept_of};
 
 use crate::capacities::{limits_of, sizes_of};
 use octets::{Place, fill};
@@ -51,23 +50,15 @@ const SIZES: [Place; 8] = [
 
 const LIMITS: [Place; 5] = [READS, WRITES, TIME, HIGH, LOW];
 
-fn total_in(bytes: &[u8], at: usize) -> Capacity
-    requires { at + body_size ≤ length bytes.now }
-    ensures { result ≡ capacity_in bytes.now at body_total }
+fn capacity_in(bytes: &[u8], at: usize, low: Place, high: Place) -> Capacity
+    requires low { (low.width ≡ 8) × (at + low.at + 8 ≤ length bytes.now) }
+    requires high { (high.width ≡ 8) × (at + high.at + 8 ≤ length bytes.now) }
+    ensures low { result.low ≡ read_at bytes.now at low }
+    ensures high { result.high ≡ read_at bytes.now at high }
 {
     Capacity {
-        low: TOTAL_LOW.word(bytes, at),
-        high: TOTAL_HIGH.word(bytes, at),
-    }
-}
-
-fn unallocated_in(bytes: &[u8], at: usize) -> Capacity
-    requires { at + body_size ≤ length bytes.now }
-    ensures { result ≡ capacity_in bytes.now at body_unallocated }
-{
-    Capacity {
-        low: UNALLOCATED_LOW.word(bytes, at),
-        high: UNALLOCATED_HIGH.word(bytes, at),
+        low: low.word(bytes, at),
+        high: high.word(bytes, at),
     }
 }
 
@@ -88,8 +79,8 @@ pub fn attributes_in(bytes: &[u8], at: usize) -> Attributes
         group: Group(GROUP.short(bytes, at)),
         random_read_typical: RANDOM_READ.dword(bytes, at),
         optimal_write_size: OPTIMAL_WRITE.dword(bytes, at),
-        total: total_in(bytes, at),
-        unallocated: unallocated_in(bytes, at),
+        total: capacity_in(bytes, at, TOTAL_LOW, TOTAL_HIGH),
+        unallocated: capacity_in(bytes, at, UNALLOCATED_LOW, UNALLOCATED_HIGH),
         reads_typical: limit_in(bytes, at, READS),
         writes_typical: limit_in(bytes, at, WRITES),
         time_maximum: limit_in(bytes, at, TIME),
@@ -98,7 +89,7 @@ pub fn attributes_in(bytes: &[u8], at: usize) -> Attributes
     }
 }
 
-// A body's identifier.
+// A body's identifier. The bodies stand one after another, and specs/ reads each at its place among them: so a place goes with the bytes.
 pub fn body_id(bytes: &[u8], at: usize) -> u64
     requires { at + body_size ≤ length bytes.now }
     ensures { result ≡ (attributes_in bytes.now at).id.0 }
@@ -114,7 +105,9 @@ fn sizes_legal(bytes: &[u8], at: usize) -> bool
     let group = in_range(NUMBER_MAXIMUM, u64::from(GROUP.short(bytes, at)));
     let random = RANDOM_READ.dword(bytes, at) <= FOUR_BYTES_MAXIMUM;
     let optimal = OPTIMAL_WRITE.dword(bytes, at) <= FOUR_BYTES_MAXIMUM;
-    id & group & random & optimal & (unallocated_in(bytes, at) <= total_in(bytes, at))
+    let total = capacity_in(bytes, at, TOTAL_LOW, TOTAL_HIGH);
+    let unallocated = capacity_in(bytes, at, UNALLOCATED_LOW, UNALLOCATED_HIGH);
+    id & group & random & optimal & (unallocated <= total)
 }
 
 // Whether a body's attributes are in range, straight on its numbers: what of them is kept says no more whether they were.

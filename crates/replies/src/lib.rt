@@ -17,6 +17,7 @@ pub type Notice = Option<u16>;
 // Dword 0 of a notice: read log page 0Bh.
 pub const NOTICE: u32 = 0x000B0402;
 
+// The status stays a number: 0000h and 07C8h are none of a refusal, and every caller hands it on as one, to C, a printout or a stream.
 #[derive(Clone, Copy)]
 pub struct Reply {
     pub status: u16,
@@ -112,7 +113,7 @@ pub fn beside(r: Reply, notice: Notice) -> Reply
     Reply { notice, ..r }
 }
 
-// A notice as numbers: whether there is one, its request's identifier, and its dword 0.
+// A notice as numbers, which C's reply needs: whether there is one, its request's identifier, and its dword 0.
 pub fn told_no(notice: Notice) -> u16
     ensures { result ≡ told_no notice }
 {

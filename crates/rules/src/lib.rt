@@ -30,7 +30,7 @@ pub enum Cause {
     TimeUp = 6,
 }
 
-// An entry of the table of window changes. Never: that cause does not arise in that window.
+// An entry of the table of window changes: one of three, so no Option. Never: that cause does not arise in that window.
 #[derive(Clone, Copy)]
 pub enum Next {
     Never,
@@ -180,7 +180,7 @@ fn charge_in_d(a: Attributes, s: State, q: Quantity, k: u16) -> Effect
     }
 }
 
-// Two names for one rule, since the functions for C call each by its own.
+// Two names for one rule, as specs/ has them: each is cited by its own.
 pub fn read_event(a: Attributes, s: State, k: u16) -> Effect
     ensures { result ≡ read_event k a s }
 {

@@ -179,6 +179,7 @@ pub fn give_words<W: Write>(out: &mut W, words: &[u64], buf: &mut [u8]) -> io::R
     out.write_all(&buf[..WORD * n])
 }
 
+// Numbers as they are written: no crate of the card's is known here, and so no reply.
 pub fn give_reply<W: Write>(
     out: &mut W,
     status: u16,

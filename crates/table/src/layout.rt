@@ -62,6 +62,7 @@ fn field_words(r: Record) -> [u64; ROW]
     ]
 }
 
+// Asked of rows that are not legal too: then any other number stands for N.
 fn window_in(n: u64) -> Window
     ensures { result ≡ window_in n }
 {

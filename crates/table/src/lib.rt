@@ -146,7 +146,7 @@ pub fn settle<C: Cell>(table: &mut [C], new: bool) -> Notice
     None
 }
 
-// A request that arrives.
+// A request that arrives. It and feature 0Bh, below, differ in what they ask of the desk, and each says so in its own clause.
 pub fn queue<C: Cell>(table: &mut [C], id: u16) -> Notice
     requires { DeskThere (C.words table.old) × (length (desk_at (C.words table.old)).waiting < requests_maximum) }
     ensures desk { Tells (C.words table.old) (settle false (queued id (desk_at (C.words table.old)))) (C.words table.new) result }
@@ -203,6 +203,8 @@ fn rows_legal<C: Cell>(table: &[C], n: usize) -> bool
     true
 }
 
+// Asked once of each item. No type says it of a table from then on: between the store of a row and what the item's end makes of the desk
+// a table need not be legal.
 pub fn legal<C: Cell>(table: &[C]) -> bool
     ensures { result ≡ legal_table (C.words table.now) }
 {

@@ -116,7 +116,7 @@ fn play_item(table: &mut [u64], line: &mut Line, kind: Kind, body: &[u8])
     }
 }
 
-// The item of a kind and a body: what it does to the table, and its line. Where they are no item, nothing is done and the line is
+// The item of a kind, by its byte on the tape, and a body: what it does to the table, and its line. Where they are no item, nothing is done and the line is
 // empty.
 pub fn play(table: &mut [u64], line: &mut Line, kind: u8, body: &[u8])
     ensures { Played table.old (item_in kind body.now) table.new line.new }

@@ -26,6 +26,7 @@ pub const BODIES: usize = MOST * BODY;
 
 const TURNS: usize = 65536;
 
+// One literal for the many ways in which a turn ends.
 fn made(stage: Stage, count: u64, used: usize, len: usize, going: bool) -> Progress
     ensures { result ≡ progress stage count used len going }
 {

@@ -105,7 +105,8 @@ fn digit(d: u64) -> u8
     if d < 10 { b'0' + d } else { b'A' - 10 + d }
 }
 
-// The last `width` digits of a number, written from the lowest to the highest.
+// The last `width` digits of a number, written from the lowest to the highest. By hand, and no `write!`: the library says of what it
+// prints which bytes come where it answers Ok, and not that it does, but no line of a printout may fail.
 fn put_digits(out: &mut [u8], at: usize, base: u64, width: usize, v: u64)
     requires { (at + width ≤ length out.old) × (2 ≤ base) × (base ≤ 16) }
     ensures { out.new ≡ sets out.old at (digits_of base width v) }

@@ -1,10 +1,6 @@
-use mathlib.Core.Path.{◌∙◌}
-use borrow.Author.Tests.{eq-eqb, ne_eqb}
+use mathlib.Core.Path.{refl, sym, ◌∙◌}
 use Rattle.by_reference.proofs.OfRecord.{media_ruled}
 use Rattle.by_reference.proofs.records.after.Goals as goal
 
-pub returns-then-status-eq-SUCCESS : goal.returns-then-status-eq-SUCCESS
-returns-then-status-eq-SUCCESS c = simp (c.after_event.ensures ∙ media_ruled c.args.m c.args.r, eq-eqb _ _ c.if-status-eq-SUCCESS.true)
-
-pub returns-else-status-eq-SUCCESS : goal.returns-else-status-eq-SUCCESS
-returns-else-status-eq-SUCCESS c = simp (ne_eqb _ _ c.if-status-eq-SUCCESS.false)
+pub returns : goal.returns
+returns c = (rw (sym c.record_legal.ensures ∙ c.if-not-record_legal.false) refl, c.after_event.ensures ∙ media_ruled c.args.m c.args.r)
