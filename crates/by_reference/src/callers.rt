@@ -18,7 +18,7 @@ pub fn charge_lent(r: Record, m: Media) -> Charged
     let status = charge(&mut copy, m);
     Charged {
         record: copy,
-        status: status,
+        status,
     }
 }
 

@@ -68,8 +68,33 @@ pub fn after_clearing(r: Record) -> Record
     settle(r, clearing_read(r.state))
 }
 
+fn after_read(r: Record, c: Command) -> Record
+    ensures { result ≡ settled r (if retain c then still r.state else clearing_read r.state) }
+{
+    if retains(c) {
+        settle(r, keep_still(r.state))
+    } else {
+        after_clearing(r)
+    }
+}
+
+// The record after any command that is carried out, of who holds a record by itself: `card` stores only what a kind can change. Only Set
+// Features 13h looks at the data in.
+pub fn after_command(r: Record, k: Kind, c: Command, given: &[u8]) -> Record
+    requires { needs_in k ≤ length given.now }
+    ensures { result ≡ after_on k c given.now r }
+{
+    match k {
+        Kind::SetConfig => after_config(r, c, given),
+        Kind::SetWindow => after_window(r, c),
+        Kind::ReadLatency => after_read(r, c),
+        _ => settle(r, keep_still(r.state)),
+    }
+}
+
 // ---- dword 0 and the page, from the record before it is changed
 
+// As the document numbers it: 0 while off.
 fn mode_no(s: State) -> u32
     ensures { result ≡ mode_no s }
 {
@@ -116,6 +141,7 @@ fn hand_window(r: Record) -> Reply
     give(window_word(r.state), 0)
 }
 
+// A match, and no closure for each kind: they differ in what they are handed.
 pub fn hand_by(k: Kind, c: Command, r: Record, answer: &mut [u8]) -> Reply
     requires { (is_named k ≡ true) × ((shape_of k).part ≡ true → offset c ≤ (shape_of k).page) × (needs_out k c ≤ length answer.old) }
     ensures { Replied (answer_of k c r) answer.old result answer.new }
@@ -128,7 +154,7 @@ pub fn hand_by(k: Kind, c: Command, r: Record, answer: &mut [u8]) -> Reply
     }
 }
 
-// Dword 0 of Get Features 0Bh.
+// Dword 0 of Get Features 0Bh, where the document has one bit of it.
 pub fn notices_no(on: bool) -> u32
     ensures { result ≡ notices_no on }
 {

@@ -14,3 +14,10 @@ pub fn after_event(r: Record, m: Media) -> Record
 {
     settle(r, media_event(r.attributes, r.state, m))
 }
+
+// The same of a tick.
+pub fn after_tick(r: Record, t: u32) -> Record
+    ensures { result ≡ tick_one t r }
+{
+    settle(r, tick_event(r.attributes, r.state, t))
+}

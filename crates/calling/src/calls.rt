@@ -4,7 +4,6 @@ use card::media::{excursion, reads, ticks, writes};
 use card::set_up::set_up;
 use record::SetId;
 use replies::{Reply, to_no, told_no};
-use std::io;
 use std::io::Write;
 use streams::{
     HEAD, Kind, count_in, give_reply, give_status, give_words, kind_in, set_in, time_in,
@@ -31,48 +30,37 @@ fn reply_of(head: &[u8; HEAD], lent: &mut Lent<'_>) -> Reply {
     }
 }
 
-fn answer_whole<W: Write>(out: &mut W, head: &[u8; HEAD], lent: &mut Lent<'_>) -> io::Result<()> {
-    let r = reply_of(head, lent);
-    let notice = r.notice;
-    give_reply(
+// What cannot be written is lost, here and below: the rest is tried, and the next call read.
+fn give<W: Write>(out: &mut W, r: Reply) {
+    let _ = give_reply(
         out,
         r.status,
         r.dword,
         r.len,
-        told_no(notice),
-        to_no(notice),
-    )
-}
-
-fn answer_part<W: Write>(out: &mut W, lent: &mut Lent<'_>) -> io::Result<()> {
-    let (r, written) = command_part(lent.table, lent.command, lent.data, lent.answer);
-    give_reply(
-        out,
-        r.status,
-        r.dword,
-        written.len(),
         told_no(r.notice),
         to_no(r.notice),
-    )?;
-    out.write_all(written)
+    );
 }
 
-fn answer_by<W: Write>(out: &mut W, head: &[u8; HEAD], lent: &mut Lent<'_>) -> io::Result<()> {
+fn answer_part<W: Write>(out: &mut W, lent: &mut Lent<'_>) {
+    let (r, written) = command_part(lent.table, lent.command, lent.data, lent.answer);
+    give(out, r);
+    let _ = out.write_all(written);
+}
+
+fn answer_by<W: Write>(out: &mut W, head: &[u8; HEAD], lent: &mut Lent<'_>) {
     match kind_in(head) {
-        Some(Kind::SetUp) => give_status(out, set_up(lent.table, lent.data)),
+        Some(Kind::SetUp) => {
+            let _ = give_status(out, set_up(lent.table, lent.data));
+        }
         Some(Kind::CommandPart) => answer_part(out, lent),
-        _ => answer_whole(out, head, lent),
+        _ => give(out, reply_of(head, lent)),
     }
 }
 
 // The words' bytes pass through a buffer.
-pub fn carry_out<W: Write>(
-    out: &mut W,
-    head: &[u8; HEAD],
-    lent: &mut Lent<'_>,
-    buf: &mut [u8],
-) -> io::Result<()> {
-    answer_by(out, head, lent)?;
-    give_words(out, lent.table, buf)?;
-    out.write_all(lent.answer)
+pub fn carry_out<W: Write>(out: &mut W, head: &[u8; HEAD], lent: &mut Lent<'_>, buf: &mut [u8]) {
+    answer_by(out, head, lent);
+    let _ = give_words(out, lent.table, buf);
+    let _ = out.write_all(lent.answer);
 }

@@ -50,6 +50,7 @@ impl Room {
     }
 }
 
+// One call; an Err where it did not come whole.
 fn one_call<R: Read, W: Write>(from: &mut R, out: &mut W, room: &mut Room) -> io::Result<()> {
     let mut head = [0u8; HEAD];
     from.read_exact(&mut head)?;
@@ -61,7 +62,8 @@ fn one_call<R: Read, W: Write>(from: &mut R, out: &mut W, room: &mut Room) -> io
         data: part(&room.data, n.data),
         answer: part_mut(&mut room.answer, n.answer),
     };
-    carry_out(out, &head, &mut lent, &mut room.bytes)
+    carry_out(out, &head, &mut lent, &mut room.bytes);
+    Ok(())
 }
 
 // A proved loop has to end, and nothing says that the input does: so it takes no more turns than a number that no run uses up. The

@@ -69,8 +69,8 @@ fn window_at<C: Cell>(table: &mut [C], slot: Slot, c: Command, r: Record) -> boo
     newly_listed(r, x)
 }
 
-// The record of a slot after a command that is carried out. Each kind stores by itself, and only what it can change: a match, and no closure
-// for each kind, since they differ in what they are handed.
+// The record of a slot after a command that is carried out. Each kind stores by itself, and only what it can change: a match, and no
+// closure for each kind, since they differ in what they are handed.
 fn change<C: Cell>(
     table: &mut [C],
     slot: Slot,
@@ -234,6 +234,7 @@ fn answer_notices<C: Cell>(
     Ok(give(notices_no(on_at(table)), 0))
 }
 
+// Each of these kinds is handed other things, so they are arms of a match and no closures.
 fn answer_view<C: Cell>(
     table: &mut [C],
     asked: Asked,
@@ -286,6 +287,7 @@ pub fn command_part<'a, C: Cell>(
     given: &[u8],
     answer: &'a mut [u8],
 ) -> (Reply, &'a mut [u8])
+    ensures len { result.0.len ≡ length result.1.now }
     ensures handed { Handed (C.words table.old) (Item.command bytes.now given.now (length answer.old)) (length answer.old) (C.words table.new) result.0.status result.0.dword (told_no result.0.notice) (to_no result.0.notice) result.1.now }
     ensures rest { C.rest table.new ≡ C.rest table.old }
 {

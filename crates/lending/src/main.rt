@@ -49,6 +49,8 @@ fn put_row(table: &mut [u64], row: &[u64; ROW]) {
     }
 }
 
+// ---- each answers the status as the number that is written
+
 fn charge(table: &mut [u64], m: Media) -> u16 {
     let c = charge_lent(record_of(row_in(table)), m);
     let r = c.record;
@@ -65,8 +67,8 @@ fn attributes_at(bodies: &[u8], i: usize) -> Attributes {
 
 fn list_in(bodies: &[u8]) -> [Attributes; MAX_SETS] {
     let mut list = [attributes_at(bodies, 0); MAX_SETS];
-    for i in 0..MAX_SETS {
-        list[i] = attributes_at(bodies, i);
+    for (i, a) in list.iter_mut().enumerate() {
+        *a = attributes_at(bodies, i);
     }
     list
 }
@@ -92,15 +94,16 @@ fn status_of(head: &[u8; HEAD], table: &mut [u64], bodies: &[u8]) -> u16 {
     }
 }
 
+// What cannot be written is lost: the rest is tried, and the next call read.
 fn carry_out<W: Write>(
     out: &mut W,
     head: &[u8; HEAD],
     table: &mut [u64],
     bodies: &[u8],
     buf: &mut [u8],
-) -> io::Result<()> {
-    give_status(out, status_of(head, table, bodies))?;
-    give_words(out, table, buf)
+) {
+    let _ = give_status(out, status_of(head, table, bodies));
+    let _ = give_words(out, table, buf);
 }
 
 // Room for what follows a head, and for the words' bytes on their way.
@@ -111,6 +114,7 @@ struct Room {
     bytes: [u8; BYTES],
 }
 
+// One call; an Err where it did not come whole.
 fn one_call<R: Read, W: Write>(from: &mut R, out: &mut W, room: &mut Room) -> io::Result<()> {
     let mut head = [0u8; HEAD];
     from.read_exact(&mut head)?;
@@ -123,7 +127,8 @@ fn one_call<R: Read, W: Write>(from: &mut R, out: &mut W, room: &mut Room) -> io
         part_mut(&mut room.table, n.table),
         part(&room.data, n.data),
         &mut room.bytes,
-    )
+    );
+    Ok(())
 }
 
 // A proved loop has to end, and nothing says that the input does: so it takes no more turns than a number that no run uses up. The

@@ -76,7 +76,8 @@ impl Place {
     }
 }
 
-// The first n bytes of the answer become the page's from place `from`, with zeros past its end.
+// The library copies and fills; what the bytes are then has a name in clauses, here and in `clear`. The first n bytes of the answer
+// become the page's from place `from`, with zeros past its end.
 pub fn copy_part(page: &[u8], from: usize, n: usize, answer: &mut [u8])
     requires { (from ≤ length page.now) × (n ≤ length answer.old) }
     ensures { answer.new ≡ sets answer.old 0 (padded page.now from n) }

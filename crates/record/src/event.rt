@@ -90,7 +90,7 @@ impl Events {
     }
 
     // Whether one of these is among the enabled ones. In one step, as the next: `(self & enabled).any()`, with `|` for the next, made
-    // `store_effect` of `card_c` too large to become part of its callers (tried: 728 bytes of stack for reads, where it is 376).
+    // `store_effect` of `card` too large to become part of its callers (tried: 728 bytes of stack for reads, where it is 376).
     fn any_in(self, enabled: Events) -> bool
         ensures { result ≡ any_enabled self enabled }
     {

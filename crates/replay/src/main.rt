@@ -71,8 +71,9 @@ fn named<R: Files + Input + Eprint>(rt: &R, path: &[u8]) -> Option<Source<R::Fil
     }
 }
 
-// Whether a whole tape was read and all its text written, which is then its printout: a bool, since what goes wrong is said here. A read or a write that fails is said on standard
-// error. A proved loop has to end, and nothing says that a file does: so it takes no more turns than a number that no run uses up.
+// Whether a whole tape was read and all its text written, which is then its printout: a bool, since what goes wrong is said here. A
+// read or a write that fails is said on standard error. A proved loop has to end, and nothing says that a file does: so it takes no
+// more turns than a number that no run uses up.
 fn replay<R: Read, W: Write>(rt: &impl Eprint, from: &mut R, to: &mut W) -> bool
     ensures { result ≡ true → IfSome (R.remaining from.old)
         (λ file. length file < 2 ^ 64 → Appends (W.contents to.old) (W.contents to.new) (printout file)) }

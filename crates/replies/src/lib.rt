@@ -55,7 +55,7 @@ pub fn first(rows: &[(bool, Refusal)]) -> Result<(), Refusal>
     Ok(())
 }
 
-// A number and nothing else.
+// A status, of a refusal or of a request that waits, and nothing else.
 fn bare(status: u16) -> Reply
     ensures { result ≡ replying status 0 0 None }
 {

@@ -1,5 +1,6 @@
-// What each item does to one set. A rule sees attributes and state, never events or the listed mark, and answers an effect. The two go from
-// function to function as two: a type of both would be taken apart again by each, and a record has the notes as well, which no rule may see.
+// What each item does to one set. A rule sees attributes and state, never events or the listed mark, and answers an effect. The two go
+// from function to function as two: a type of both would be taken apart again by each, and a record has the notes as well, which no
+// rule may see.
 #![tactic(auto)]
 
 pub mod changes;

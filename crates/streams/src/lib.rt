@@ -17,7 +17,7 @@ ghost use Rattle.octets.specs.Words.{word_size};
 ghost use Rattle.streams.specs.Calls.{head_size, kind_of, word_bytes, reply_bytes};
 
 use octets::numbers::{short, word};
-use octets::words::{words_in, words_out};
+use octets::words::{WORD, words_in, words_out};
 use std::io;
 use std::io::{ErrorKind, Read, Write};
 
@@ -25,10 +25,7 @@ pub const HEAD: usize = 16;
 
 const REPLY: usize = 14;
 
-// Bytes of a word.
-const WORD: usize = 8;
-
-// The number in some bytes of a head; 0 where they are not there.
+// The number in some bytes of a head; 0 where they are not there, as where nothing stands: no kind and no length has it.
 pub fn number(head: &[u8; HEAD], at: usize, width: usize) -> u64
     ensures { result ≡ (if nat_le (at + width) head_size && nat_le width word_size then number_at head.now at width else 0) }
 {
@@ -83,10 +80,10 @@ pub fn sizes_in(head: &[u8; HEAD]) -> Sizes
     ensures given { result.«data» ≡ number_at head.now 14 2 }
 {
     Sizes {
-        table: short(head, 8) as usize,
-        answer: short(head, 10) as usize,
-        command: short(head, 12) as usize,
-        data: short(head, 14) as usize,
+        table: usize::from(short(head, 8)),
+        answer: usize::from(short(head, 10)),
+        command: usize::from(short(head, 12)),
+        data: usize::from(short(head, 14)),
     }
 }
 
@@ -122,7 +119,8 @@ pub fn part_mut<T>(buf: &mut [T], n: usize) -> &mut [T]
     buf.get_mut(..n).unwrap_or(&mut [])
 }
 
-// Reads n bytes to the start of a buffer; a buffer that is too short for them is an error too.
+// Reads n bytes to the start of a buffer, whose size is fixed, as no memory is asked for: how many come, a head says. A buffer that is
+// too short for them is an error too.
 pub fn take<R: Read>(from: &mut R, buf: &mut [u8], n: usize) -> io::Result<()>
     ensures room { OnOk result (n ≤ length buf.new) }
     ensures bytes { OnOk result (Consumes (R.remaining from.old) (R.remaining from.new) (take n buf.new)) }
@@ -191,11 +189,11 @@ pub fn give_reply<W: Write>(
     ensures { OnOk result (Appends (W.contents out.old) (W.contents out.new) (reply_bytes status told dword len to)) }
 {
     let mut reply = [0u8; REPLY];
-    octets::put(&mut reply, 0, 2, status as u64);
-    octets::put(&mut reply, 2, 2, told as u64);
-    octets::put(&mut reply, 4, 4, dword as u64);
+    octets::put(&mut reply, 0, 2, u64::from(status));
+    octets::put(&mut reply, 2, 2, u64::from(told));
+    octets::put(&mut reply, 4, 4, u64::from(dword));
     octets::put(&mut reply, 8, 4, len as u64);
-    octets::put(&mut reply, 12, 2, to as u64);
+    octets::put(&mut reply, 12, 2, u64::from(to));
     out.write_all(&reply)
 }
 

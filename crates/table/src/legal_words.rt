@@ -7,8 +7,10 @@ use crate::layout::ROW;
 use record::Events;
 use record::legal::{DAY_MS, NUMBER_MAXIMUM, TYPICAL_MAXIMUM, in_range};
 
+// As a word: `record`'s is of four bytes.
 const FOUR_BYTES_MAXIMUM: u64 = 4294967295;
 
+// On the four words, since two capacities of them would have to be built first.
 fn capacities_legal(a: [u64; ROW]) -> bool
     ensures { result ≡ capacities_legal a }
 {

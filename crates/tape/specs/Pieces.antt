@@ -93,7 +93,7 @@ abbrev pub line_room : ℕ
 line_room = status_digits + 1 + dword_digits + 1 + 2 * answer_size + 1 + notice_room
 
 -- what a line shows: the text that is written on it, for which there is room
-pub record Shows (line shown : List ℕ) : Type 0 where
+pub record ShowsText (line shown : List ℕ) : Type 0 where
   pub text : shown ≡ line
   pub room : length line ≤ line_room
 

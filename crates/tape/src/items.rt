@@ -100,6 +100,7 @@ fn play_command(table: &mut [u64], line: &mut Line, bytes: &[u8], given: &[u8])
     notice_line(line, r.notice);
 }
 
+// The arms differ in what they are handed, so they are no closures.
 fn play_item(table: &mut [u64], line: &mut Line, kind: Kind, body: &[u8])
     requires { length body.now ≡ item_size (kind_number kind) }
     ensures { Played table.old (some (item_by (kind_number kind) body.now)) table.new line.new }
@@ -116,8 +117,8 @@ fn play_item(table: &mut [u64], line: &mut Line, kind: Kind, body: &[u8])
     }
 }
 
-// The item of a kind, by its byte on the tape, and a body: what it does to the table, and its line. Where they are no item, nothing is done and the line is
-// empty.
+// The item of a kind, by its byte on the tape, and a body: what it does to the table, and its line. Where they are no item, nothing is
+// done and the line is empty.
 pub fn play(table: &mut [u64], line: &mut Line, kind: u8, body: &[u8])
     ensures { Played table.old (item_in kind body.now) table.new line.new }
 {

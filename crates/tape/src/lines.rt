@@ -1,4 +1,5 @@
-// The lines of a printout. Each is put in place of what a line held, and only that of a notice goes after it.
+// The lines of a printout, where a status is printed as its number. Each is put in place of what a line held, and only that of a notice
+// goes after it.
 ghost use Rattle.std.specs.Prelude.{◌≡◌, ◌+◌, ◌≤◌, ◌++◌, length};
 ghost use Rattle.tape.specs.Text.{sets_line, end_line, bad_line, item_line, told_line, notice_line, notice_room};
 ghost use Rattle.tape.specs.Pieces.{line_room};

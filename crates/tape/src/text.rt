@@ -2,7 +2,7 @@
 ghost use Rattle.std.specs.Prelude.{◌≡◌, ℕ, ◌+◌, ◌*◌, ◌<◌, ◌≤◌, List, [], ◌∷◌, ◌++◌, length, take};
 ghost use Rattle.std.proofs.lemmas.List.Edits.{sets};
 ghost use Rattle.tape.specs.Text.{digit_of, digits_of, places, decimal_of, hex_of, data_hex, data_text, no_text};
-ghost use Rattle.tape.specs.Pieces.{line_room, Shows};
+ghost use Rattle.tape.specs.Pieces.{line_room, ShowsText};
 
 use std::marker::Model;
 
@@ -47,7 +47,7 @@ impl Line {
     }
 
     pub fn as_bytes(&self) -> &[u8]
-        ensures { Shows self.now result.now }
+        ensures { ShowsText self.now result.now }
     {
         &self.bytes[..self.len]
     }
