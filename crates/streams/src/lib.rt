@@ -189,11 +189,11 @@ pub fn give_reply<W: Write>(
     ensures { OnOk result (Appends (W.contents out.old) (W.contents out.new) (reply_bytes status told dword len to)) }
 {
     let mut reply = [0u8; REPLY];
-    octets::put(&mut reply, 0, 2, u64::from(status));
-    octets::put(&mut reply, 2, 2, u64::from(told));
-    octets::put(&mut reply, 4, 4, u64::from(dword));
+    octets::put(&mut reply, 0, 2, status as u64);
+    octets::put(&mut reply, 2, 2, told as u64);
+    octets::put(&mut reply, 4, 4, dword as u64);
     octets::put(&mut reply, 8, 4, len as u64);
-    octets::put(&mut reply, 12, 2, u64::from(to));
+    octets::put(&mut reply, 12, 2, to as u64);
     out.write_all(&reply)
 }
 
