@@ -23,8 +23,7 @@ fn put_body(bytes: &mut [u8], i: usize, a: Attributes)
     }
 }
 
-// The status is its number, here and in `callers`, as that of `card`'s set-up is. How many bodies there are stands beside the bytes:
-// these lie in a buffer of a fixed size.
+// How many bodies there are stands beside the bytes: these lie in a buffer of a fixed size.
 
 // Set-up from the first n bodies, or from all that there is room for.
 fn set_up_from(table: &mut [u64], bytes: &[u8], n: usize) -> u16

@@ -28,7 +28,7 @@ fn after(r: Record, m: Media) -> Result<Record, Refusal>
     Ok(after_event(r, m))
 }
 
-// The status as its number, as every item's is.
+// The status as its number, by `ChargedInPlace`.
 pub fn charge(record: &mut Record, m: Media) -> u16
     ensures { ChargedInPlace m «record».old «record».new result }
 {

@@ -78,8 +78,8 @@ fn after_read(r: Record, c: Command) -> Record
     }
 }
 
-// The record after any command that is carried out, of who holds a record by itself: `card` stores only what a kind can change. Only Set
-// Features 13h looks at the data in.
+// The record after any command that is carried out, of who holds a record by itself: `card` stores only what a kind can change. A match,
+// and no closure for each kind, since they differ in what they are handed: only Set Features 13h looks at the data in.
 pub fn after_command(r: Record, k: Kind, c: Command, given: &[u8]) -> Record
     requires { needs_in k ≤ length given.now }
     ensures { result ≡ after_on k c given.now r }
@@ -94,7 +94,7 @@ pub fn after_command(r: Record, k: Kind, c: Command, given: &[u8]) -> Record
 
 // ---- dword 0 and the page, from the record before it is changed
 
-// As the document numbers it: 0 while off.
+// As the document numbers it: 0 while off. Two windows share 1, so it is no discriminant.
 fn mode_no(s: State) -> u32
     ensures { result ≡ mode_no s }
 {

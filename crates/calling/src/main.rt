@@ -50,7 +50,7 @@ impl Room {
     }
 }
 
-// One call; an Err where it did not come whole.
+// One call; an Err where it did not come whole. `lending` has one of this name for calls of other kinds.
 fn one_call<R: Read, W: Write>(from: &mut R, out: &mut W, room: &mut Room) -> io::Result<()> {
     let mut head = [0u8; HEAD];
     from.read_exact(&mut head)?;

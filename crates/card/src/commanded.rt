@@ -234,7 +234,8 @@ fn answer_notices<C: Cell>(
     Ok(give(notices_no(on_at(table)), 0))
 }
 
-// Each of these kinds is handed other things, so they are arms of a match and no closures.
+// These kinds differ in what they are handed, some the whole answer and some its length alone, so they are arms of a match and no
+// closures.
 fn answer_view<C: Cell>(
     table: &mut [C],
     asked: Asked,

@@ -49,15 +49,6 @@ fn put_row(table: &mut [u64], row: &[u64; ROW]) {
     }
 }
 
-// ---- each answers the status as the number that is written
-
-fn charge(table: &mut [u64], m: Media) -> u16 {
-    let c = charge_lent(record_of(row_in(table)), m);
-    let r = c.record;
-    put_row(table, &words_of(r));
-    c.status
-}
-
 fn attributes_at(bodies: &[u8], i: usize) -> Attributes {
     if i < bodies.len() / BODY {
         return attributes_in(bodies, i * BODY);
@@ -71,6 +62,15 @@ fn list_in(bodies: &[u8]) -> [Attributes; MAX_SETS] {
         *a = attributes_at(bodies, i);
     }
     list
+}
+
+// ---- each answers the status as the number that is written
+
+fn charge(table: &mut [u64], m: Media) -> u16 {
+    let c = charge_lent(record_of(row_in(table)), m);
+    let r = c.record;
+    put_row(table, &words_of(r));
+    c.status
 }
 
 fn set_up(table: &mut [u64], bodies: &[u8]) -> u16 {
@@ -114,7 +114,7 @@ struct Room {
     bytes: [u8; BYTES],
 }
 
-// One call; an Err where it did not come whole.
+// One call; an Err where it did not come whole. `calling` has one of this name for calls of other kinds.
 fn one_call<R: Read, W: Write>(from: &mut R, out: &mut W, room: &mut Room) -> io::Result<()> {
     let mut head = [0u8; HEAD];
     from.read_exact(&mut head)?;

@@ -25,7 +25,7 @@ pub const HEAD: usize = 16;
 
 const REPLY: usize = 14;
 
-// The number in some bytes of a head; 0 where they are not there, as where nothing stands: no kind and no length has it.
+// The number in some bytes of a head. Where they are not there it is 0, by the clause, and no kind has the number 0.
 pub fn number(head: &[u8; HEAD], at: usize, width: usize) -> u64
     ensures { result ≡ (if nat_le (at + width) head_size && nat_le width word_size then number_at head.now at width else 0) }
 {
@@ -48,7 +48,7 @@ pub enum Kind {
     CommandPart,
 }
 
-// The kind of a head; none where its number is none of theirs.
+// The kind of a head; none where its number is none of theirs, which is no error, so no TryFrom.
 pub fn kind_in(head: &[u8; HEAD]) -> Option<Kind>
     ensures { result ≡ kind_of (number_at head.now 0 1) }
 {
@@ -189,11 +189,11 @@ pub fn give_reply<W: Write>(
     ensures { OnOk result (Appends (W.contents out.old) (W.contents out.new) (reply_bytes status told dword len to)) }
 {
     let mut reply = [0u8; REPLY];
-    octets::put(&mut reply, 0, 2, status as u64);
-    octets::put(&mut reply, 2, 2, told as u64);
-    octets::put(&mut reply, 4, 4, dword as u64);
+    octets::put(&mut reply, 0, 2, u64::from(status));
+    octets::put(&mut reply, 2, 2, u64::from(told));
+    octets::put(&mut reply, 4, 4, u64::from(dword));
     octets::put(&mut reply, 8, 4, len as u64);
-    octets::put(&mut reply, 12, 2, to as u64);
+    octets::put(&mut reply, 12, 2, u64::from(to));
     out.write_all(&reply)
 }
 

@@ -8,7 +8,7 @@ use record::Events;
 use record::legal::{DAY_MS, NUMBER_MAXIMUM, TYPICAL_MAXIMUM, in_range};
 
 // As a word: `record`'s is of four bytes.
-const FOUR_BYTES_MAXIMUM: u64 = 4294967295;
+const FOUR_BYTES_MAXIMUM: u64 = record::legal::FOUR_BYTES_MAXIMUM as u64;
 
 // On the four words, since two capacities of them would have to be built first.
 fn capacities_legal(a: [u64; ROW]) -> bool

@@ -36,7 +36,7 @@ pub(crate) enum Kind {
 }
 
 impl Kind {
-    // The kind with a number; none where it is no item's.
+    // The kind with a number; none where it is no item's, which is no error here, so no TryFrom.
     pub(crate) fn of(number: u8) -> Option<Kind>
         ensures some { IfSome result (λ kind. kind_number kind ≡ number) }
         ensures none { IsNone result → item_size number ≡ 0 }

@@ -62,7 +62,8 @@ fn one_more(n: u64) -> u64
 
 // ---- the sets
 
-// A set's body, kept after those before it if there is room.
+// A set's body, kept after those before it if there is room. How many there are stands beside the bytes, as n here and below: the
+// bodies lie in a buffer of a fixed size (no heap).
 fn keep(bodies: &mut [u8], n: u64, body: &[u8])
     requires { (length bodies.old ≡ bodies_room) × (length body.now ≡ attributes_size) }
     ensures { bodies.new ≡ with_body bodies.old n body.now }
