@@ -18,7 +18,7 @@ use Rattle.record.specs.declared.Attributes.{Attributes}
 use Rattle.table.specs.Table.{max_sets}
 use Rattle.pages.specs.Bodies.{body_size, body, attributes_in}
 use Rattle.pages.proofs.Back.{body_length}
-use Rattle.steps.specs.Words.{Result}
+use Rattle.steps.specs.Words.{OutcomeWords}
 use Rattle.steps.specs.SetUp.{bodies, with_body, first_bodies, set_up, SetUp}
 use Rattle.steps.proofs.NewSets.{refused_many, first_more}
 use Rattle.by_reference.specs.Lists.{bodies_of}
@@ -135,4 +135,4 @@ set_up_all room h list i bytes g over ws after r p =
     let same : bodies bytes ≡ room / body_size = ap (λ (n : ℕ). n / body_size) g.long in
     let whole : set_up (first_bodies bytes (length list)) ws ≡ set_up (bodies_of list) ws
     = ap (λ (xs : List ℕ). set_up xs ws) (rw last at g.laid) ∙ cut_list list ws (bodies bytes) (rw same h) in
-    record { table = p.table ∙ ap (λ (s : Result). s.table) whole; status = p.status ∙ ap (λ (s : Result). s.answer.status) whole }
+    record { table = p.table ∙ ap (λ (s : OutcomeWords). s.table) whole; status = p.status ∙ ap (λ (s : OutcomeWords). s.answer.status) whole }

@@ -8,7 +8,7 @@ use Rattle.octets.specs.Octets.{part}
 use Rattle.record.specs.declared.Attributes.{Attributes}
 use Rattle.pages.specs.Bodies.{body_size, body, attributes_in, Sized, AllSized}
 use Rattle.pages.proofs.Back.{body_length, body_alone, body_back}
-use Rattle.steps.specs.Words.{Result}
+use Rattle.steps.specs.Words.{OutcomeWords}
 use Rattle.steps.specs.SetUp.{new_record, attributes_from, new_sets}
 use Rattle.by_reference.specs.Lists.{bodies_of, TheirOwn, TooMany}
 use Rattle.steps.proofs.NewSets.{refused_many}
@@ -36,4 +36,4 @@ their_own list s = rw (bodies_many list) (ap (map new_record) (read_list_lem lis
 pub too_many : TooMany
 too_many list ws after number h p =
     let refusal = refused_many (bodies_of list) ws (rw (bodies_many list) h) in
-    (p.status ∙ ap (λ (r : Result). r.answer.status) refusal, p.table ∙ ap (λ (r : Result). r.table) refusal)
+    (p.status ∙ ap (λ (r : OutcomeWords). r.answer.status) refusal, p.table ∙ ap (λ (r : OutcomeWords). r.table) refusal)

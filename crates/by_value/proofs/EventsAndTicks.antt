@@ -13,9 +13,8 @@ use Rattle.record.specs.Parts.{id_of}
 use Rattle.record.specs.Event.{settled, newly_listed}
 use Rattle.record.specs.Legal.{day_ms}
 use Rattle.replies.specs.Numbers.{bad_table, unknown_set, tick_too_long}
-use Rattle.replies.specs.Answers.{Notice}
+use Rattle.replies.specs.Answers.{Notice, granted, refusing, done, beside_of}
 use Rattle.replies.specs.declared.Reply.{Reply}
-use Rattle.replies.specs.Answers.{granted, refusing, done, beside_of}
 use Rattle.desk.specs.Desk.{settle}
 use Rattle.table.specs.declared.Absent.{Absent}
 use Rattle.table.specs.declared.Absent.TheVariants.{BadTable, NoSet}

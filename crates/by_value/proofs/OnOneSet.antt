@@ -12,9 +12,8 @@ use Rattle.octets.proofs.Runs.{padded_whole}
 use Rattle.octets.proofs.Pages.{length_place}
 use Rattle.record.specs.declared.Record.{Record}
 use Rattle.record.specs.Event.{newly_listed}
-use Rattle.replies.specs.Answers.{Notice}
+use Rattle.replies.specs.Answers.{Notice, Answer, refused, refusing, giving, beside_of, Replied}
 use Rattle.replies.specs.declared.Reply.{Reply}
-use Rattle.replies.specs.Answers.{Answer, refused, refusing, giving, beside_of, Replied}
 use Rattle.replies.proofs.Answering.{granting, refused_reply, with_notice}
 use Rattle.desk.specs.Desk.{settle}
 use Rattle.table.specs.Layout.{words_of, record_of}

@@ -7,12 +7,10 @@ use borrow.Author.Tests.{eqb-true, eqb-false}
 use lib.Dec.{eqb}
 use lib.ListN.{length}
 use lib.Seq.{sets}
-use Rattle.std.specs.Prelude.{if◌then◌else◌}
-use Rattle.replies.specs.Answers.{Notice}
-use Rattle.std.specs.Prelude.{None}
+use Rattle.std.specs.Prelude.{if◌then◌else◌, None}
+use Rattle.replies.specs.Answers.{Notice, saying, answered, refused, refusing, giving, beside_of, Replied}
 use Rattle.replies.specs.declared.Reply.{Reply}
 use Rattle.replies.specs.Status.{first_of}
-use Rattle.replies.specs.Answers.{saying, answered, refused, refusing, giving, beside_of, Replied}
 use Rattle.replies.proofs.Answering.{granting, one_outcome, with_notice, refused_reply, no_data, waits_reply}
 use Rattle.desk.specs.Desk.{lifted, settle}
 use Rattle.table.specs.Table.{desk_at, with_desk, DeskThere, Tells, legal_table}

@@ -1,13 +1,11 @@
 -- What a command that names a set does, where the set was found: for the functions that carry it out.
-use Rattle.std.specs.Prelude.{◌≡◌, List, ◌++◌, ℕ, eqb, length, if◌then◌else◌}
+use Rattle.std.specs.Prelude.{◌≡◌, List, ◌++◌, ℕ, eqb, length, if◌then◌else◌, None}
 use Rattle.record.specs.declared.Record.{Record}
 use Rattle.record.specs.Event.{settled, newly_listed}
 use Rattle.desk.specs.Desk.{Told, settle}
 use Rattle.replies.specs.Status.{first_of}
-use Rattle.replies.specs.Answers.{Notice}
-use Rattle.std.specs.Prelude.{None}
+use Rattle.replies.specs.Answers.{Notice, Answer, refused, Replied}
 use Rattle.replies.specs.declared.Reply.{Reply}
-use Rattle.replies.specs.Answers.{Answer, refused, Replied}
 use Rattle.table.specs.Layout.{words_of, record_of}
 use Rattle.table.specs.Table.{desk_at, with_desk, row, put}
 use Rattle.commands.specs.declared.Command.{Command}

@@ -8,7 +8,7 @@ use borrow.Author.Tests.{eq-eqb}
 use Rattle.record.specs.Event.{bit}
 use Rattle.steps.specs.Items.{Item}
 use Rattle.steps.specs.Rows.{carried_out}
-use Rattle.steps.specs.Words.{Result, step_words}
+use Rattle.steps.specs.Words.{OutcomeWords, step_words}
 use Rattle.steps.proofs.OnWords.{refused_words}
 use Rattle.steps.proofs.ExactRefusals.{number_tells_words, set_up_refused, set_up_answers}
 use Rattle.steps.specs.Demands.{refusal_words}
@@ -24,7 +24,7 @@ pub refused_set_up : RefusedSetUp
 refused_set_up bodies region after number each e n =
     let ws = table_in region in
     let d = set_up_refused bodies ws (λ z. not_success number n (e.status ∙ set_up_answers bodies ws ∙ z)) in
-    e.table ∙ ap (λ (x : Result). table_out region x.table) d ∙ own_region region each
+    e.table ∙ ap (λ (x : OutcomeWords). table_out region x.table) d ∙ own_region region each
 
 -- nor is that of an item that no row refuses another
 not_carried : (ws : List ℕ) (i : Item) (number : ℕ) → number ≡ (step_words ws i).answer.status → carried_out number ≡ false → refusal_words ws i ≡ 0 → ⊥
@@ -36,7 +36,7 @@ pub refused_item : RefusedItem
 refused_item region i before reply₀ number after buffer said each e n =
     let ws = table_in region in
     let d = refused_words ws i (not_carried ws i number e.status n) in (
-      e.table ∙ ap (λ (x : Result). table_out region x.table) d ∙ own_region region each,
+      e.table ∙ ap (λ (x : OutcomeWords). table_out region x.table) d ∙ own_region region each,
       rw d at e.answer,
       rw d at e.reply,
     )

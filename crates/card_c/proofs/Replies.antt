@@ -14,9 +14,8 @@ use Rattle.octets.specs.Octets.{bytes_of, number_of, padded}
 use Rattle.octets.specs.Pages.{place}
 use Rattle.octets.proofs.Runs.{sets_join, sets_over}
 use Rattle.octets.proofs.PutAndGet.{get_put, get_other}
-use Rattle.replies.specs.Answers.{Notice}
+use Rattle.replies.specs.Answers.{Notice, told_no, to_no, notice_no}
 use Rattle.std.specs.Prelude.{None, Some}
-use Rattle.replies.specs.Answers.{told_no, to_no, notice_no}
 use Rattle.desk.specs.Desk.{identifier_maximum}
 use Rattle.steps.proofs.HeldWords.{notice_back}
 use Rattle.card_c.specs.Entries.{reply_size, notice_at, notice_id_at, notice_size, reply_page, reply_part}

@@ -1,10 +1,9 @@
 -- Demand 1, of what C lends: "A refused call gives dword 0 as zero and no data, and changes no byte of the table or of the
 -- answer buffer." A call is refused where its number is none of an item that was carried out. Each is proved under its name, in snake
 -- case, in proofs/Refusals.antt.
-use Rattle.std.specs.Prelude.{◌≡◌, false, List, ℕ, length}
+use Rattle.std.specs.Prelude.{◌≡◌, false, List, ℕ, length, None}
 use Rattle.std.proofs.lemmas.List.Edits.{sets}
 use Rattle.octets.specs.Octets.{AllBytes}
-use Rattle.std.specs.Prelude.{None}
 use Rattle.steps.specs.Items.{Item}
 use Rattle.steps.specs.Rows.{carried_out}
 use Rattle.card_c.specs.Entries.{SetUpAtC, AnsweredAtC, reply_part}

@@ -5,8 +5,7 @@ use Rattle.std.proofs.lemmas.List.Edits.{sets}
 use Rattle.octets.specs.Octets.{padded}
 use Rattle.octets.specs.Pages.{field, place}
 use Rattle.region.specs.Region.{table_in, table_out}
-use Rattle.replies.specs.Answers.{Notice}
-use Rattle.replies.specs.Answers.{told_no, to_no, notice_no, cut}
+use Rattle.replies.specs.Answers.{Notice, told_no, to_no, notice_no, cut}
 use Rattle.steps.specs.Items.{Item}
 use Rattle.steps.specs.Words.{step_words}
 use Rattle.steps.specs.SetUp.{set_up}

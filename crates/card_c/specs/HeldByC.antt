@@ -7,8 +7,7 @@
 use Rattle.std.specs.Prelude.{◌≡◌, true, List, ℕ, ◌-◌, min, leb, length, replicate}
 use Rattle.std.proofs.lemmas.List.Edits.{sets}
 use Rattle.octets.specs.Octets.{number_of, part, AllBytes}
-use Rattle.replies.specs.Answers.{Notice}
-use Rattle.replies.specs.Answers.{notice_of}
+use Rattle.replies.specs.Answers.{Notice, notice_of}
 use Rattle.table.specs.Table.{card_of, legal_table}
 use Rattle.region.specs.Region.{table_in, table_out}
 use Rattle.steps.specs.Items.{Item, GivenBytes}

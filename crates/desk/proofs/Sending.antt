@@ -8,9 +8,8 @@ use native.Mathlib.Omega.{arith}
 use borrow.Author.Tests.{leb-true, le-leb, not-true}
 use lib.Dec.{leb}
 use lib.ListN.{length}
-use Rattle.std.specs.Prelude.{if◌then◌else◌}
+use Rattle.std.specs.Prelude.{if◌then◌else◌, Some}
 use Rattle.octets.proofs.JoinedTests.{both, together}
-use Rattle.std.specs.Prelude.{Some}
 use Rattle.replies.specs.Answers.{told_of}
 use Rattle.desk.specs.Desk.{Desk, desk_of, Told, ready, quiet, send, settle, requests_maximum, all_identifiers, legal_desk}
 use Rattle.desk.proofs.LegalDesks.{fine}

@@ -1,7 +1,6 @@
 -- What is done to a desk, done to its words: for the functions that hold it so. proofs/AtDesk.antt says that it is the same.
-use Rattle.std.specs.Prelude.{Bool, ◌&&◌, ◌||◌, List, [], ◌∷◌, ℕ, ◌+◌, ◌-◌, ◌%◌, ◌^◌, leb, ltb, eqb, get_or, set, if◌then◌else◌}
+use Rattle.std.specs.Prelude.{Bool, ◌&&◌, ◌||◌, List, [], ◌∷◌, ℕ, ◌+◌, ◌-◌, ◌%◌, ◌^◌, leb, ltb, eqb, get_or, set, if◌then◌else◌, None, Some}
 use Rattle.octets.specs.Choice.{bit}
-use Rattle.std.specs.Prelude.{None, Some}
 use Rattle.desk.specs.Desk.{requests_maximum}
 use Rattle.desk.specs.Words.{on_word, masked_word, flag_word, count_word, first_waiting, place_legal}
 use Rattle.desk.specs.declared.Settled.{Settled}

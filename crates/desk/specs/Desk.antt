@@ -1,7 +1,6 @@
 -- 02, "Wake the host": what the whole card keeps beside its sets, so that a host need not poll page 0Bh. Nothing here knows of sets.
-use Rattle.std.specs.Prelude.{Bool, true, false, not, ◌&&◌, ◌||◌, List, [], ◌∷◌, ◌++◌, ℕ, leb, length}
+use Rattle.std.specs.Prelude.{Bool, true, false, not, ◌&&◌, ◌||◌, List, [], ◌∷◌, ◌++◌, ℕ, leb, length, None, Some}
 use Rattle.replies.specs.Answers.{Notice}
-use Rattle.std.specs.Prelude.{None, Some}
 
 -- whether notices are on (feature 0Bh, bit 12) and whether they are masked; the "one flag" that remembers a notice; and the
 -- identifiers of the requests that wait, the oldest first

@@ -17,7 +17,7 @@ use Rattle.octets.proofs.JoinedTests.{and_left, and_right}
 use Rattle.octets.proofs.Runs.{drop_sets, sets_join}
 use Rattle.octets.proofs.Below.{part_below}
 use Rattle.octets.proofs.WordBytes.{bytes_number}
-use Rattle.octets.proofs.Pages.{placed, read_back}
+use Rattle.octets.proofs.Pages.{placed, read_back, length_place}
 use Rattle.record.specs.declared.Attributes.{Attributes}
 use Rattle.record.specs.declared.Events.{Events}
 use Rattle.record.specs.declared.Config.{Config}
@@ -38,7 +38,6 @@ use Rattle.pages.specs.Capacities.{low_half, high_half}
 use Rattle.pages.specs.Bodies.{body_size, body_id, body_group, body_random_read, body_optimal_write, body_total, body_unallocated, body_reads, body_writes, body_time, body_high, body_low, body_fields, body, attributes_in, kept_of, Sized}
 use Rattle.pages.specs.Latency.{latency_size, latency_fields, latency_page}
 use Rattle.pages.specs.Features.{feature_size, config_enabled, config_reads, config_writes, config_time, config_places, config_fields, config_page, config_in, handed_back, DataBack, Words}
-use Rattle.octets.proofs.Pages.{length_place}
 use Rattle.octets.proofs.Reading.{read_below, number_within}
 
 -- ---- set-up bodies

@@ -14,8 +14,7 @@ use Rattle.octets.specs.Octets.{bytes_of}
 use Rattle.octets.specs.Pages.{Field, puts, place, tidy, Fit, readings, values}
 use Rattle.octets.proofs.JoinedTests.{both}
 use Rattle.octets.proofs.Runs.{sets_comm}
-use Rattle.octets.proofs.Pages.{made_onto, read_back, puts_more}
-use Rattle.octets.proofs.Pages.{length_puts, length_place}
+use Rattle.octets.proofs.Pages.{made_onto, read_back, puts_more, length_puts, length_place}
 use Rattle.record.specs.declared.Attributes.{Attributes}
 use Rattle.pages.specs.Bodies.{Sized, AllSized}
 use Rattle.pages.specs.Identify.{identify_size, entry_size, first_entry, identify_entries, shown_if, shown, in_one_answer, entry_fields, entries_at, identify_fields, identify_page, Shows}

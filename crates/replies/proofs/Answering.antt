@@ -10,9 +10,8 @@ use lib.Seq.{sets, length-sets}
 use Rattle.octets.specs.Octets.{padded}
 use Rattle.octets.proofs.Runs.{part_same}
 use Rattle.replies.specs.declared.Reply.{Reply}
-use Rattle.replies.specs.Answers.{Notice}
+use Rattle.replies.specs.Answers.{Notice, Answer, saying, answered, granted, refused, giving, replying, beside_of, Replied}
 use Rattle.replies.specs.Answers as answers
-use Rattle.replies.specs.Answers.{Answer, saying, answered, granted, refused, giving, replying, beside_of, Replied}
 
 pub length_padded : (l : List ℕ) (at n : ℕ) → length (padded l at n) ≡ n
 length_padded l at zero = refl

@@ -10,11 +10,9 @@ use native.Mathlib.Nat.{mod-lt}
 use borrow.Author.Tests.{eqb-true, eq-eqb, leb-true, leb-false}
 use lib.Dec.{eqb, leb}
 use lib.ListN.{length, set, length-append}
-use Rattle.std.specs.Prelude.{if◌then◌else◌}
-use Rattle.replies.specs.Answers.{Notice}
-use Rattle.std.specs.Prelude.{None, Some}
+use Rattle.std.specs.Prelude.{if◌then◌else◌, None, Some}
+use Rattle.replies.specs.Answers.{Notice, told_of, to_no}
 use Rattle.replies.specs.Status.{first_of}
-use Rattle.replies.specs.Answers.{told_of, to_no}
 use Rattle.replies.proofs.Rows.{passed}
 use Rattle.record.specs.declared.Record.{Record}
 use Rattle.record.specs.Parts.{id_of}

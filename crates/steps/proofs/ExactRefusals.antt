@@ -10,11 +10,10 @@ use native.Mathlib.Nat.{zero-mul}
 use borrow.Author.Tests.{eqb-true, ne_eqb, le-ltb}
 use lib.Dec.{eqb}
 use lib.ListN.{length}
-use Rattle.std.specs.Prelude.{if◌then◌else◌}
+use Rattle.std.specs.Prelude.{if◌then◌else◌, None}
 use Rattle.octets.proofs.JoinedTests.{both, left_false}
 use Rattle.record.specs.declared.Record.{Record}
 use Rattle.replies.specs.Numbers.{success, invalid_field, unknown_set, too_early, too_short, bad_table}
-use Rattle.std.specs.Prelude.{None}
 use Rattle.record.specs.declared.Attributes.{Attributes}
 use Rattle.record.specs.declared.State.{State}
 use Rattle.replies.specs.Status.{Line, line, first_of}
@@ -38,7 +37,7 @@ use Rattle.steps.specs.Meanings.{event, meaning}
 use Rattle.rules.specs.Rules.{media_rule}
 use Rattle.steps.specs.Card.{has, unknown_at, refusal_one, refusal_by, refusal_of, done_one, done_by, answer}
 use Rattle.steps.specs.Rows.{set_in, is_there, of_set, command_rows, event_rows, tick_rows, carried_out, ByRows}
-use Rattle.steps.specs.Words.{Result, card_of, step_words}
+use Rattle.steps.specs.Words.{OutcomeWords, card_of, step_words}
 use Rattle.steps.specs.SetUp.{set_up_lines, set_up_status, set_up}
 use Rattle.steps.specs.Demands.{refusal_words, carried_command, carried_status, CarriedOut, NumberTells, Exactly, ExactlyEvents, ExactlyTicks, RefusedBuffer, RefusedHanded, SetUpExactly, SetUpRefused, SetUpLegal}
 use Rattle.steps.proofs.Slots.{refused_answer}
@@ -192,7 +191,7 @@ told_item : (rows : List Line) (ws : List ℕ) (i : Item) → refusal_words ws i
 told_item rows ws i e =
     let t : carried_out (step_words ws i).answer.status ≡ eqb (first_of rows) 0 = number_tells_words ws i ∙ ap (λ (x : ℕ). eqb x 0) e in
     record {
-      refusal = λ n. ap (λ (r : Result). r.answer.status) (refused_words ws i (λ z. n (sym e ∙ z))) ∙ e;
+      refusal = λ n. ap (λ (r : OutcomeWords). r.answer.status) (refused_words ws i (λ z. n (sym e ∙ z))) ∙ e;
       success = λ z. carried_words ws i (legal_table ws) refl (e ∙ z);
       tells = t;
     }

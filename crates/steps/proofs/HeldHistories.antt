@@ -13,9 +13,8 @@ use Rattle.record.specs.declared.Attributes.{Attributes}
 use Rattle.record.specs.declared.Record.{Record}
 use Rattle.record.specs.Parts.{id_of}
 use Rattle.replies.specs.Numbers.{success}
-use Rattle.replies.specs.Answers.{Notice}
-use Rattle.std.specs.Prelude.{None}
-use Rattle.replies.specs.Answers.{Answer, told_of}
+use Rattle.replies.specs.Answers.{Notice, Answer, told_of}
+use Rattle.std.specs.Prelude.{None, if◌then◌else◌}
 use Rattle.desk.specs.Desk.{Desk, waits}
 use Rattle.table.specs.Card.{Card}
 use Rattle.table.specs.Table.{records_of, legal_sets, legal_table, listed_marks, newly, max_sets}
@@ -29,7 +28,6 @@ use Rattle.steps.specs.Words.{card_of, step_words}
 use Rattle.steps.specs.Demands.{configures, none_configures, window_of, none_moves, run_words, trace_words, told_words}
 use Rattle.steps.specs.Notices.{legal_card, accepted_by, accepted, reads_listed, lifts, none_lifts, lists_some, turns_notices, none_turns}
 use Rattle.steps.specs.Holders.{Holder, Called, History, last, items, lents, backs, shown, shown_with, naming, StaysLegal, OwnRecords, OwnAnswersBack, AggregateBack, NeverLost, SwapsBack, none_done, none_moved, ConfigBack, WindowBack, NoticesBack, all_hear, notices_told, accepted_calls, lifts_call, none_lift_calls, lists_some_call, desk_held, InTurnBack, SentBack, ElseBack, HeardBack, ServedBack, WokenBack, OneBack, asks_of, GivesEachBack, AskAnsweredBack, Demanded, Steps}
-use Rattle.std.specs.Prelude.{if◌then◌else◌}
 use Rattle.pages.specs.Asking.{Ask}
 use Rattle.steps.specs.Commanded.{attributes_of}
 use Rattle.steps.specs.Asking.{ask_in}

@@ -7,9 +7,8 @@ use native.Mathlib.Nat.{sub-zero}
 use lib.ListN.{length}
 use Rattle.octets.specs.Octets.{part}
 use Rattle.octets.proofs.Reading.{within_take}
-use Rattle.replies.specs.Answers.{Notice}
+use Rattle.replies.specs.Answers.{Notice, told_no, to_no, notice_of, cut}
 use Rattle.std.specs.Prelude.{None, Some}
-use Rattle.replies.specs.Answers.{told_no, to_no, notice_of, cut}
 use Rattle.steps.specs.Holders.{held_words, WordsDemand, held_part, PartDemand, Steps}
 use Rattle.steps.proofs.HeldHistories.{demanded}
 

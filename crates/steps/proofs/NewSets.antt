@@ -8,7 +8,7 @@ use borrow.Author.Tests.{eqb-true, eqb-false, not-false, leb-true, ltb-false, lt
 use lib.Dec.{eqb, leb}
 use lib.ListN.{length}
 use lib.Seq.{sets, length-sets}
-use Rattle.std.specs.Prelude.{if◌then◌else◌}
+use Rattle.std.specs.Prelude.{if◌then◌else◌, None}
 use Rattle.octets.proofs.JoinedTests.{both}
 use Rattle.octets.proofs.Runs.{take_through}
 use Rattle.record.specs.Legal.{in_range}
@@ -18,11 +18,10 @@ use Rattle.table.specs.Card.{layout_number, header}
 use Rattle.table.specs.Table.{row_start, legal_sets, legal_table, max_sets}
 use Rattle.table.proofs.Written.{Fitting, written_back, written_legal}
 use Rattle.pages.specs.Bodies.{body_size}
-use Rattle.std.specs.Prelude.{None}
 use Rattle.replies.specs.Answers.{granted}
 use Rattle.desk.specs.Desk.{new_desk}
 use Rattle.desk.specs.Words.{desk_words}
-use Rattle.steps.specs.Words.{Result, card_of, unchanged}
+use Rattle.steps.specs.Words.{OutcomeWords, card_of, unchanged}
 use Rattle.steps.specs.SetUp.{new_record, attributes_from, bodies, first_bodies, new_sets, new_card, set_up_lines, set_up_status, new_table, set_up}
 
 -- ---- the status
@@ -71,10 +70,10 @@ module _ (bytes ws : List ℕ) (w : Well bytes (length ws)) where
   pub new_table_back : card_of (new_table bytes ws) ≡ new_card bytes
   new_table_back = written_back ws (new_card bytes) new_fits
 
-abbrev pub done : List ℕ → List ℕ → Result
+abbrev pub done : List ℕ → List ℕ → OutcomeWords
 done bytes ws = record { table = new_table bytes ws; answer = granted 0 []; notice = None }
 
-abbrev pub not_done : List ℕ → ℕ → Result
+abbrev pub not_done : List ℕ → ℕ → OutcomeWords
 not_done ws s = unchanged ws s
 
 by_status :

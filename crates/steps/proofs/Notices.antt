@@ -8,12 +8,10 @@ use native.Mathlib.Omega.{arith}
 use borrow.Author.Tests.{eqb-true, eq-eqb, not-true}
 use lib.Dec.{eqb}
 use lib.ListN.{length}
-use Rattle.std.specs.Prelude.{if◌then◌else◌}
+use Rattle.std.specs.Prelude.{if◌then◌else◌, None, Some}
 use Rattle.octets.proofs.JoinedTests.{both, together}
 use Rattle.replies.specs.Numbers.{success, request_waits}
-use Rattle.replies.specs.Answers.{Notice}
-use Rattle.std.specs.Prelude.{None, Some}
-use Rattle.replies.specs.Answers.{granted, told_of}
+use Rattle.replies.specs.Answers.{Notice, granted, told_of}
 use Rattle.desk.specs.Desk.{Desk, turned, waits, ready, raised_by, legal_desk}
 use Rattle.desk.proofs.Sending.{Sent, Unsent', sent, send_on, oldest, unserved}
 use Rattle.table.specs.Table.{legal_sets, newly}

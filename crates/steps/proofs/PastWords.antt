@@ -18,7 +18,7 @@ use Rattle.table.proofs.Written.{length_written, written_rest}
 use Rattle.table.proofs.PastTheTable.{written_past, card_past, legal_past}
 use Rattle.steps.specs.Items.{Card, Item}
 use Rattle.steps.specs.Card.{at_desk, after, answer}
-use Rattle.steps.specs.Words.{Result, card_of, unchanged, step_words}
+use Rattle.steps.specs.Words.{OutcomeWords, card_of, unchanged, step_words}
 use Rattle.steps.specs.SetUp.{bodies, new_card, set_up_status, new_table, set_up}
 use Rattle.steps.specs.PastTheTable.{past, beside, NotRead, SetUpNotRead, NotWritten, SetUpNotWritten}
 use Rattle.steps.proofs.ItemShapes.{bool_cases}
@@ -36,7 +36,7 @@ step_unsized ws i h = step_bad ws i (unsized ws h)
 
 module _ (more ws : List ℕ) where
   module _ (room : row_start (count ws) ≤ length ws) (i : Item) where
-    abbrev stepped : Card → Result
+    abbrev stepped : Card → OutcomeWords
     stepped c = record { table = written (ws ++ more) (after c i); answer = answer c i; notice = (at_desk c i).notice }
 
     legal_beside : legal_table ws ≡ true → step_words (ws ++ more) i ≡ beside (step_words ws i) more

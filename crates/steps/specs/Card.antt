@@ -10,8 +10,7 @@ use Rattle.record.specs.Parts.{id_of}
 use Rattle.record.specs.Event.{settled}
 use Rattle.replies.specs.Numbers.{too_short}
 use Rattle.replies.specs.Status.{line, first_of}
-use Rattle.replies.specs.Answers.{Notice}
-use Rattle.replies.specs.Answers.{Answer, granted, refused, told_of}
+use Rattle.replies.specs.Answers.{Notice, Answer, granted, refused, told_of}
 use Rattle.desk.specs.Desk.{Desk, Told, quiet, settle}
 use Rattle.rules.specs.Rules.{still}
 use Rattle.octets.specs.Lists.{first, join}

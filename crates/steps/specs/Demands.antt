@@ -6,7 +6,7 @@
 -- and proofs/WordsStay.antt.
 -- But for page 0Bh, the features and which items name a set nothing here looks at a single item: an item names one set (`The`), goes
 -- to every set (`Everybody`) or to none (`Nobody`).
-use Rattle.std.specs.Prelude.{◌≡◌, Bool, true, false, not, ◌&&◌, ◌||◌, List, [], ◌∷◌, ◌++◌, map, ℕ, ◌*◌, eqb, length, if◌then◌else◌}
+use Rattle.std.specs.Prelude.{◌≡◌, Bool, true, false, not, ◌&&◌, ◌||◌, List, [], ◌∷◌, ◌++◌, map, ℕ, ◌*◌, eqb, length, if◌then◌else◌, None}
 use Rattle.std.proofs.Math.Option.{Option, none, some}
 use Rattle.octets.specs.Octets.{AllBytes, padded}
 use Rattle.octets.specs.Words.{AllWords}
@@ -17,10 +17,8 @@ use Rattle.record.specs.Parts.{id_of}
 use Rattle.record.specs.Event.{bit, any_enabled}
 use Rattle.record.specs.Windows.{window_no}
 use Rattle.replies.specs.Numbers.{success, request_waits, bad_table}
-use Rattle.replies.specs.Answers.{Notice}
-use Rattle.std.specs.Prelude.{None}
+use Rattle.replies.specs.Answers.{Notice, Answer, granted, refused, refusing, told_of}
 use Rattle.replies.specs.declared.Reply.{Reply}
-use Rattle.replies.specs.Answers.{Answer, granted, refused, refusing, told_of}
 use Rattle.desk.specs.Desk.{new_desk, legal_desk}
 use Rattle.table.specs.Card.{card_with}
 use Rattle.table.specs.Table.{legal_sets, legal_table, written, listed_marks}

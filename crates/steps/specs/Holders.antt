@@ -1,7 +1,7 @@
 -- Demand 3, "hands back", and what 02 promises of notices and of asking Identify again, at the place where users call: said once, of
 -- anything that holds a card and takes items, and of any calls to it, one after another. What is supposed of a call is only what its function promises; no run of the
 -- step stands in a hypothesis.
-use Rattle.std.specs.Prelude.{◌≡◌, Bool, true, false, not, ◌&&◌, ◌||◌, List, [], ◌∷◌, ◌++◌, map, ℕ, ◌+◌, ◌*◌, ◌≤◌, eqb, length, if◌then◌else◌}
+use Rattle.std.specs.Prelude.{◌≡◌, Bool, true, false, not, ◌&&◌, ◌||◌, List, [], ◌∷◌, ◌++◌, map, ℕ, ◌+◌, ◌*◌, ◌≤◌, eqb, length, if◌then◌else◌, None, Some}
 use Rattle.std.proofs.Math.Option.{some}
 use Rattle.std.proofs.lemmas.List.Edits.{sets}
 use Rattle.octets.specs.Octets.{AllBytes, part, padded}
@@ -10,10 +10,8 @@ use Rattle.record.specs.declared.Record.{Record}
 use Rattle.record.specs.Parts.{id_of}
 use Rattle.record.specs.Event.{bit}
 use Rattle.replies.specs.Numbers.{success}
-use Rattle.replies.specs.Answers.{Notice}
-use Rattle.std.specs.Prelude.{None, Some}
+use Rattle.replies.specs.Answers.{Notice, Answer, granted, replying, beside_of, told_of, told_no, to_no, notice_of}
 use Rattle.replies.specs.declared.Reply.{Reply}
-use Rattle.replies.specs.Answers.{Answer, granted, replying, beside_of, told_of, told_no, to_no, notice_of}
 use Rattle.desk.specs.Desk.{Desk, waits, identifier_maximum}
 use Rattle.table.specs.Table.{records_of, desk_at, legal_table, listed_marks, newly}
 use Rattle.pages.specs.Features.{handed_back}

@@ -2,9 +2,8 @@
 -- after: by nothing that the step reckons on its way.
 -- Each is proved under its name, in snake case, in proofs/Notices.antt; the two that are refuted, and the table of
 -- cases, in proofs/NoticeCases.antt. The same of calls, one after another, is in Holders.antt.
-use Rattle.std.specs.Prelude.{◌≡◌, Bool, true, false, not, ◌&&◌, ◌||◌, List, [], ◌∷◌, ◌++◌, ◌⊎◌, ℕ, ◌≤◌, eqb, length, if◌then◌else◌}
+use Rattle.std.specs.Prelude.{◌≡◌, Bool, true, false, not, ◌&&◌, ◌||◌, List, [], ◌∷◌, ◌++◌, ◌⊎◌, ℕ, ◌≤◌, eqb, length, if◌then◌else◌, None, Some}
 use Rattle.replies.specs.Numbers.{success, request_waits}
-use Rattle.std.specs.Prelude.{None, Some}
 use Rattle.replies.specs.Answers.{granted}
 use Rattle.desk.specs.Desk.{Desk, waits, ready, legal_desk}
 use Rattle.table.specs.Card.{Card}

@@ -3,7 +3,7 @@
 use Rattle.std.specs.Prelude.{◌≡◌, List, ◌++◌, ℕ, ◌≤◌, length, drop}
 use Rattle.table.specs.Table.{count, row_start, max_sets}
 use Rattle.steps.specs.Items.{Item}
-use Rattle.steps.specs.Words.{Result, step_words}
+use Rattle.steps.specs.Words.{OutcomeWords, step_words}
 use Rattle.steps.specs.SetUp.{bodies, set_up}
 
 -- the words past a table of n sets
@@ -32,7 +32,7 @@ SetUpNotWritten = (bytes ws : List ℕ) → UnwrittenNew bytes ws
 -- ---- "neither read": whatever stands there, the answer and the table's words are the same
 
 -- a result, and words past it
-abbrev pub beside : Result → List ℕ → Result
+abbrev pub beside : OutcomeWords → List ℕ → OutcomeWords
 beside r more = record { table = r.table ++ more; answer = r.answer; notice = r.notice }
 
 -- any item, where the words have room for as many sets as the header says. (Where they have not, the table is refused: `step_unsized`

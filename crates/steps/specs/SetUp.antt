@@ -1,5 +1,5 @@
 -- 01, set-up: "the core first takes the 84-byte bodies below". One definition, apart from the step.
-use Rattle.std.specs.Prelude.{◌≡◌, false, not, List, [], ◌∷◌, map, ℕ, zero, suc, ◌+◌, ◌*◌, ◌/◌, ◌%◌, min, ltb, eqb, length, take, if◌then◌else◌}
+use Rattle.std.specs.Prelude.{◌≡◌, false, not, List, [], ◌∷◌, map, ℕ, zero, suc, ◌+◌, ◌*◌, ◌/◌, ◌%◌, min, ltb, eqb, length, take, if◌then◌else◌, None}
 use Rattle.std.proofs.lemmas.List.Edits.{sets}
 use Rattle.record.specs.declared.Window.TheVariants.{Off}
 use Rattle.record.specs.declared.Attributes.{Attributes}
@@ -10,13 +10,12 @@ use Rattle.record.specs.Event.{no_events}
 use Rattle.record.specs.Legal.{in_range}
 use Rattle.replies.specs.Numbers.{too_short, bad_set_up}
 use Rattle.replies.specs.Status.{Line, line, first_of}
-use Rattle.std.specs.Prelude.{None}
 use Rattle.replies.specs.Answers.{granted}
 use Rattle.desk.specs.Desk.{new_desk}
 use Rattle.table.specs.Card.{Card, card_with}
 use Rattle.table.specs.Table.{row_start, legal_sets, written, max_sets}
 use Rattle.pages.specs.Bodies.{body_size, attributes_in}
-use Rattle.steps.specs.Words.{Result, unchanged}
+use Rattle.steps.specs.Words.{OutcomeWords, unchanged}
 
 -- "Set-up starts all off and zero."
 abbrev pub new_state : State
@@ -72,7 +71,7 @@ abbrev pub new_table : List ℕ → List ℕ → List ℕ
 new_table bytes ws = written ws (new_card bytes)
 
 -- the words afterwards, and the answer: "Each refusal is given exactly then, .. nothing written."
-unfoldable pub set_up : List ℕ → List ℕ → Result
+unfoldable pub set_up : List ℕ → List ℕ → OutcomeWords
 set_up bytes ws =
     if eqb (set_up_status bytes (length ws)) 0
     then record { table = new_table bytes ws; answer = granted 0 []; notice = None }

@@ -1,10 +1,8 @@
 -- The step on the lent words.
-use Rattle.std.specs.Prelude.{◌≡◌, List, ℕ, ◌≤◌, length, if◌then◌else◌}
+use Rattle.std.specs.Prelude.{◌≡◌, List, ℕ, ◌≤◌, length, if◌then◌else◌, None}
 use Rattle.replies.specs.Numbers.{bad_table}
 use Rattle.replies.specs.declared.Reply.{Reply}
-use Rattle.replies.specs.Answers.{Notice}
-use Rattle.std.specs.Prelude.{None}
-use Rattle.replies.specs.Answers.{Answer, refused, told_no, to_no, Replied}
+use Rattle.replies.specs.Answers.{Notice, Answer, refused, told_no, to_no, Replied}
 use Rattle.table.specs.declared.Absent.{Absent}
 use Rattle.table.specs.declared.Absent.TheVariants.{BadTable, NoSet}
 use Rattle.table.specs.Table.{legal_table, written}
@@ -13,17 +11,17 @@ use Rattle.steps.specs.Items.{Item}
 use Rattle.steps.specs.Card.{step}
 
 -- the words afterwards, the answer, and the notice that may go beside it
-pub record Result : Type 0 where
+pub record OutcomeWords : Type 0 where
   pub table : List ℕ
   pub answer : Answer
   pub notice : Notice
 
 -- nothing changed, and a refusal
-abbrev pub unchanged : List ℕ → ℕ → Result
+abbrev pub unchanged : List ℕ → ℕ → OutcomeWords
 unchanged ws status = record { table = ws; answer = refused status; notice = None }
 
 -- 01: "table not legal, or slice too short": 07C3h, and nothing changed. Else the card's step, written back.
-unfoldable pub step_words : List ℕ → Item → Result
+unfoldable pub step_words : List ℕ → Item → OutcomeWords
 step_words ws i =
     if legal_table ws
     then record { table = written ws (step (card_of ws) i).card; answer = (step (card_of ws) i).answer; notice = (step (card_of ws) i).notice }

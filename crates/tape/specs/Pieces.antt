@@ -7,7 +7,7 @@ use Rattle.table.specs.Table.{max_sets}
 use Rattle.pages.specs.Features.{feature_size}
 use Rattle.pages.specs.Bodies.{body_size}
 use Rattle.commands.specs.Commands.{command_size}
-use Rattle.steps.specs.Words.{Result}
+use Rattle.steps.specs.Words.{OutcomeWords}
 use Rattle.steps.specs.SetUp.{with_body, first_bodies, set_up}
 use Rattle.tape.specs.Text.{status_digits, dword_digits, notice_room, sets_line, end_line, bad_line}
 use Rattle.tape.specs.Tape.{attributes_size, answer_size, words_after, line_for, next_set, next_item}
@@ -59,7 +59,7 @@ turn stage count used going words bodies text =
     record { stage = stage; count = count; used = used; going = going; words = words; bodies = bodies; text = text }
 
 -- "If set-up is refused, only the first line."
-abbrev pub set_up_turn : ℕ → Result → List ℕ → Turn
+abbrev pub set_up_turn : ℕ → OutcomeWords → List ℕ → Turn
 set_up_turn n result bodies =
     let granted = eqb result.answer.status 0 in
     turn (if granted then Items else Ended) 0 0 granted result.table bodies (sets_line n result.answer.status)

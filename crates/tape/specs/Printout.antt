@@ -4,7 +4,7 @@ use Rattle.std.proofs.Math.Option.{Option}
 use Rattle.octets.specs.Octets.{part}
 use Rattle.table.specs.Table.{row_start, max_sets}
 use Rattle.steps.specs.Items.{Item}
-use Rattle.steps.specs.Words.{Result}
+use Rattle.steps.specs.Words.{OutcomeWords}
 use Rattle.steps.specs.SetUp.{set_up}
 use Rattle.tape.specs.Text.{sets_line, end_line, bad_line}
 use Rattle.tape.specs.Tape.{item_size, item_in, attributes_size, words_after, line_for, next_set, next_item}
@@ -45,7 +45,7 @@ abbrev pub set_length : ℕ
 set_length = 1 + attributes_size
 
 -- "Output: "sets N SSSS"; on 0000 a line per item ..", "If set-up is refused, only the first line."
-abbrev pub set_up_text : ℕ → Result → List ℕ → List ℕ
+abbrev pub set_up_text : ℕ → OutcomeWords → List ℕ → List ℕ
 set_up_text n result bytes =
     sets_line n result.answer.status
     ++ (if eqb result.answer.status 0 then items_text (suc (length bytes)) result.table 0 bytes else [])

@@ -11,8 +11,8 @@ use Rattle.tape.specs.Text.{item_line, notice_line}
 use Rattle.tape.specs.declared.Next.{Next}
 use Rattle.tape.specs.declared.Next.TheVariants.{Whole, Short, Bad, Over}
 
--- kinds of items: "01h command", "02h command with data", "03h reads and 04h writes", "06h tick"; 05h, the excursion, is the one
--- that is left
+-- kinds of items: "01h command", "02h command with data", "03h reads and 04h writes", "05h excursion", "06h tick"; the definitions
+-- below take an excursion as the kind that is left
 abbrev pub command_kind : ℕ
 command_kind = 1
 
@@ -24,6 +24,9 @@ reads_kind = 3
 
 abbrev pub writes_kind : ℕ
 writes_kind = 4
+
+abbrev pub excursion_kind : ℕ
+excursion_kind = 5
 
 abbrev pub tick_kind : ℕ
 tick_kind = 6

@@ -1,12 +1,10 @@
 -- 01, "Replay file and its printout": the lines, as the bytes of their text.
-use Rattle.std.specs.Prelude.{◌≡◌, List, [], ◌∷◌, ◌++◌, ℕ, zero, suc, ◌+◌, ◌/◌, ◌%◌, ◌≤◌, ltb, length, if◌then◌else◌}
+use Rattle.std.specs.Prelude.{◌≡◌, List, [], ◌∷◌, ◌++◌, ℕ, zero, suc, ◌+◌, ◌/◌, ◌%◌, ◌≤◌, ltb, length, if◌then◌else◌, None, Some}
 use Prim.Native.Char.{code}
 use Prim.Native.String.{String}
 use Prim.Native.String as string
 use Rattle.std.proofs.lemmas.List.Edits.{sets}
-use Rattle.replies.specs.Answers.{Notice}
-use Rattle.std.specs.Prelude.{None, Some}
-use Rattle.replies.specs.Answers.{Answer, notice_dword}
+use Rattle.replies.specs.Answers.{Notice, Answer, notice_dword}
 
 -- a text's signs, by their numbers
 abbrev pub signs : String → List ℕ
