@@ -1,5 +1,5 @@
-// A command with what is read off it once, before any table: its kind, and the status of the rows before the set is looked up. The
-// status functions promise as much of any other kind: so it is no field's business that the kind is the command's.
+// A command with what is read off it once, before any table: its kind, and the status of the rows before the set is looked up. That the
+// kind is the command's is a promise of `ask` and no field: the status functions that take an `Asked` promise the same of any kind.
 ghost use Rattle.std.specs.Prelude.{◌≡◌};
 ghost use Rattle.replies.specs.Status.{first_of, status_no};
 ghost use Rattle.commands.specs.Shapes.{kind_of};
