@@ -68,7 +68,7 @@ module _ (ws : List ℕ) (id : ℕ) (m : Media) (e : Result Slot Absent) (known 
       turned_down ws (item_of id m) [] unknown_set x (step_unknown ws (item_of id m) id (event (media_rule m)) (meaning_media id m) f.0 f.1 (λ z. omega arith)) ex
 
   -- the two at once
-  pub event_absent : (a : Absent) → e ≡ Err a → x ≡ refusing (entry_no unknown_set a) → Answered ws (item_of id m) [] x ws []
+  pub event_absent : (a : Absent) → e ≡ Err a → x ≡ refusing (entry_no unknown_set (Err a)) → Answered ws (item_of id m) [] x ws []
   event_absent BadTable q ex = event_bad q ex
   event_absent NoSet q ex = event_unknown q ex
 

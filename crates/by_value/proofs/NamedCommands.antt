@@ -51,7 +51,7 @@ module _ (ws : List ℕ) (k : Kind) (c : Command) (given before : List ℕ) (e :
 
   -- the two at once
   pub named_absent :
-      (x : Reply) (s : ℕ) (a : Absent) → e ≡ Err a → s ≡ first_of (early_lines c ++ line true unknown_number ∷ []) → x ≡ refusing (entry_no s a)
+      (x : Reply) (s : ℕ) (a : Absent) → e ≡ Err a → s ≡ first_of (early_lines c ++ line true unknown_number ∷ []) → x ≡ refusing (entry_no s (Err a))
       → Answered ws i before x ws before
   named_absent x s BadTable q es ex = named_bad x q ex
   named_absent x s NoSet q es ex = named_unknown x s q es ex

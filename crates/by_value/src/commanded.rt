@@ -20,6 +20,7 @@ use pages::features::{FEATURE_SIZE, config_in, config_onto};
 use pages::latency::{LATENCY_SIZE, latency_onto};
 use record::event::settle;
 use record::{Attributes, Effect, Record, State, Window};
+use replies::numbers::SUCCESS;
 use replies::{Refusal, Reply, done, give};
 use rules::{Cause, clearing_read, go_to_selected, keep_still, set_mode};
 
@@ -132,7 +133,7 @@ fn hand_latency(r: Record, c: Command, answer: &mut [u8]) -> Reply
     }
     let mut page = [0u8; LATENCY_SIZE];
     latency_onto(r, &mut page);
-    replies::hand_out(Ok(()), 0, &page, from, n, answer)
+    replies::hand_out(SUCCESS, 0, &page, from, n, answer)
 }
 
 fn hand_window(r: Record) -> Reply

@@ -27,6 +27,7 @@ use octets::cells::Cell;
 use pages::identify::IDENTIFY_SIZE;
 use record::event::newly_listed;
 use record::{Record, SetId, Slot};
+use replies::numbers::SUCCESS;
 use replies::{Refusal, Reply, awaiting, beside, done, give, reply_of};
 use table::{enter, legal, lift, load, on_at, queue, settle, store, store_moved, turn, waiting_at};
 
@@ -163,7 +164,7 @@ fn answer_aggregate<C: Cell>(
     let page = aggregate_of(table);
     let from = offset_of(c) as usize;
     let n = needs_out(Kind::ReadAggregate, c) as usize;
-    let reply = replies::hand_out(Ok(()), 0, &page, from, n, answer);
+    let reply = replies::hand_out(SUCCESS, 0, &page, from, n, answer);
     lift_if(table, !retains(c));
     Ok(beside(reply, None))
 }

@@ -176,7 +176,7 @@ pub fn kind_of(c: Command) -> Kind
 
 // The set that a command names, if it names one.
 pub fn named_by(k: Kind, c: Command) -> Option<SetId>
-    ensures { MatchOption result (is_named k ≡ false) (λ id. (is_named k ≡ true) × (id.0 ≡ named_by k c)) }
+    ensures { MatchOption result ((is_named k ≡ false) × (named_by k c ≡ 0)) (λ id. (is_named k ≡ true) × (id.0 ≡ named_by k c)) }
 {
     match shape_of(k).whom {
         Whom::NoSet => None,

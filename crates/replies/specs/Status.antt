@@ -16,15 +16,21 @@ abbrev pub first_of : List Line → ℕ
 first_of [] = 0
 first_of (l ∷ ls) = if l.holds then l.number else first_of ls
 
--- a table as code holds it: each test with its refusal
+-- a table as code holds it: each test with its refusal, of which something tells the number
+abbrev pub lines_by : {R : Type 0} → (R → ℕ) → List (Bool × R) → List Line
+lines_by number_of [] = []
+lines_by number_of (row ∷ rows) = line row.0 (number_of row.1) ∷ lines_by number_of rows
+
 abbrev pub lines_of : List (Bool × Refusal) → List Line
-lines_of [] = []
-lines_of (row ∷ rows) = line row.0 (number row.1) ∷ lines_of rows
+lines_of rows = lines_by number rows
 
 -- what code answers, as a status number
+abbrev pub status_by : {R : Type 0} → (R → ℕ) → Result Unit R → ℕ
+status_by number_of (Ok _) = success
+status_by number_of (Err r) = number_of r
+
 abbrev pub status_no : Result Unit Refusal → ℕ
-status_no (Ok _) = success
-status_no (Err r) = number r
+status_no s = status_by number s
 
 -- no row has the number 0, which stands for success
 abbrev pub numbered : List Line → Bool

@@ -3,10 +3,10 @@
 
 pub mod numbers;
 
-ghost use Rattle.std.specs.Prelude.{◌≡◌, ◌≤◌, length};
+ghost use Rattle.std.specs.Prelude.{◌≡◌, ◌≤◌, ℕ, length};
 ghost use Rattle.octets.specs.Octets.{padded};
 ghost use Rattle.replies.specs.Numbers.{number};
-ghost use Rattle.replies.specs.Status.{first_of, lines_of, status_no};
+ghost use Rattle.replies.specs.Status.{first_of, lines_by, status_by};
 ghost use Rattle.replies.specs.Answers.{answered, replying, refusing, giving, done, awaiting, beside_of, reply_of, told_no, to_no, notice_of, notice_no, Replied};
 
 use crate::numbers::{REQUEST_WAITS, SUCCESS};
@@ -43,9 +43,9 @@ pub enum Refusal {
     BadCommandLength = 0x07C7,
 }
 
-// The refusal of the first row that holds.
-pub fn first(rows: &[(bool, Refusal)]) -> Result<(), Refusal>
-    ensures { status_no result ≡ first_of (lines_of rows.now) }
+// The refusal of the first row that holds, whatever a refusal is: any numbers will do.
+pub fn first<R: Copy>(rows: &[(bool, R)]) -> Result<(), R>
+    ensures { (number_of : R → ℕ) → status_by number_of result ≡ first_of (lines_by number_of rows.now) }
 {
     for (holds, refusal) in rows {
         if *holds {
@@ -139,23 +139,22 @@ pub fn notice_no(notice: Notice) -> u32
     notice.map_or(0, |_| NOTICE)
 }
 
-// A refusal, which writes nothing, or n bytes of a page from place `from`: the one way in which data goes out.
+// A refusal, which writes nothing, or n bytes of a page from place `from`: the one way in which data goes out. Any number but 0 refuses,
+// also one that is no `Refusal`'s.
 pub fn hand_out(
-    status: Result<(), Refusal>,
+    status: u16,
     dword: u32,
     page: &[u8],
     from: usize,
     n: usize,
     answer: &mut [u8],
 ) -> Reply
-    requires { status_no status ≡ 0 → (from ≤ length page.now) × (n ≤ length answer.old) }
-    ensures { Replied (answered (status_no status) dword (padded page.now from n)) answer.old result answer.new }
+    requires { status ≡ 0 → (from ≤ length page.now) × (n ≤ length answer.old) }
+    ensures { Replied (answered status dword (padded page.now from n)) answer.old result answer.new }
 {
-    match status {
-        Ok(()) => {
-            octets::copy_part(page, from, n, answer);
-            give(dword, n)
-        }
-        Err(r) => refuse(r),
+    if status != SUCCESS {
+        return bare(status);
     }
+    octets::copy_part(page, from, n, answer);
+    give(dword, n)
 }

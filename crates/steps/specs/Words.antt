@@ -1,8 +1,9 @@
 -- The step on the lent words.
-use Rattle.std.specs.Prelude.{◌≡◌, List, ℕ, ◌≤◌, length, if◌then◌else◌, None}
-use Rattle.replies.specs.Numbers.{bad_table}
+use Rattle.std.specs.Prelude.{◌≡◌, List, ℕ, ◌≤◌, length, if◌then◌else◌, None, Result, Ok, Err}
+use Rattle.replies.specs.Numbers.{success, bad_table}
 use Rattle.replies.specs.declared.Reply.{Reply}
 use Rattle.replies.specs.Answers.{Notice, Answer, refused, told_no, to_no, Replied}
+use Rattle.record.specs.declared.Slot.{Slot}
 use Rattle.table.specs.declared.Absent.{Absent}
 use Rattle.table.specs.declared.Absent.TheVariants.{BadTable, NoSet}
 use Rattle.table.specs.Table.{legal_table, written}
@@ -28,10 +29,11 @@ step_words ws i =
     else unchanged ws bad_table
 
 -- "table not legal" and "set not in the table", as the way in to an item tells them: the number for each case, where the item's own is
--- that of a set which is not there
-abbrev pub entry_no : ℕ → Absent → ℕ
-entry_no unknown BadTable = bad_table
-entry_no unknown NoSet = unknown
+-- that of a set which is not there, and 0 where it is
+abbrev pub entry_no : ℕ → Result Slot Absent → ℕ
+entry_no unknown (Err BadTable) = bad_table
+entry_no unknown (Err NoSet) = unknown
+entry_no unknown (Ok slot) = success
 
 -- What every item promises: the words that it leaves, its reply (status, dword 0, length of data, and the notice beside them, whose own
 -- dword 0 is `notice_no` of it), and every byte of the answer buffer. A media event has no buffer: [] before and after.
