@@ -31,7 +31,7 @@ use Rattle.by_reference.proofs.OfRecord.{one_charge, stays_legal}
 use Rattle.tape.proofs.Printed.{printed}
 use Rattle.tape.proofs.MovesOn.{moves_on}
 use Rattle.tape.proofs.RunsHold.{runs_hold}
-use Rattle.tape.proofs.Firm.{one_line, one_play, one_piece}
+use Rattle.tape.proofs.Firm.{one_line, one_shown, one_play, one_piece}
 use Rattle.claim.specs.Claim.{Claim}
 
 pub claim : Claim
@@ -142,6 +142,7 @@ claim =
       moves_on = moves_on;
       runs_hold = runs_hold;
       one_line = one_line;
+      one_shown = one_shown;
       one_play = one_play;
       one_piece = one_piece;
     }

@@ -170,7 +170,8 @@ pub record Claim : Type 0 where
   pub moves_on : pieces.MovesOn
   -- the whole run, and each way in which a file can end
   pub runs_hold : runs.RunsHold
-  -- two outcomes of a line, of an item and of a piece that is played, are the same
+  -- two outcomes of a line that is put and of one that is shown, of an item and of a piece that is played, are the same
   pub one_line : tape.OneLine
+  pub one_shown : tape.OneShown
   pub one_play : tape.OnePlay
   pub one_piece : tape.OnePiece

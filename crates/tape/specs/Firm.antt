@@ -5,12 +5,16 @@ use Rattle.std.proofs.Math.Option.{Option}
 use Rattle.steps.specs.Items.{Item}
 use Rattle.tape.specs.Text.{Put}
 use Rattle.tape.specs.Tape.{Played}
-use Rattle.tape.specs.Pieces.{PlayedOn}
+use Rattle.tape.specs.Pieces.{ShowsText, PlayedOn}
 use Rattle.tape.specs.declared.Progress.{Progress}
 
--- a line that is put into a buffer: every byte, and where it ends
+-- a line's text that is put into a buffer: every byte, and where it ends
 abbrev pub OneLine : Type 0
 OneLine = (before : List ℕ) (at : ℕ) (text v w : List ℕ) (m n : ℕ) → Put before at text v m → Put before at text w n → (v ≡ w) × (m ≡ n)
+
+-- what is shown of a line: every byte of its text, and so its length
+abbrev pub OneShown : Type 0
+OneShown = (line v w : List ℕ) → ShowsText line v → ShowsText line w → v ≡ w
 
 -- an item that is played: every word of the table, and every byte of the line, and so its length
 abbrev pub OnePlay : Type 0
