@@ -8,15 +8,15 @@ use native.Mathlib.Nat.{pow-suc, lt_trans, lt_of_lt_of_le, mod-lt}
 use native.Mathlib.Numerals.{add-one}
 use borrow.Author.Tests.{lt-ltb, le-ltb}
 use lib.Dec.{lit<}
-use lib.ListN.{length, length-append, set, take, drop}
-use lib.Seq.{sets, length-sets}
+use lib.ListN.{length, length-append, get_or, set, take, drop}
+use lib.Seq.{sets, length-sets, drop-cons}
 use borrow.Rule.Slice.PartMut.{put_mid}
 use Rattle.std.proofs.Common.{append_assoc, length-take-le}
 use Rattle.std.proofs.lemmas.List.{take_at}
 use Rattle.std.proofs.lemmas.List.Edits.{sets-eq, paste_all}
 use Rattle.std.proofs.lemmas.Slice.{put_mid-paste}
 use Rattle.octets.proofs.Runs.{set_sets, sets_join}
-use Rattle.tape.specs.Text.{digit_of, digits_of, hex_of, places_below, places, data_hex, Put}
+use Rattle.tape.specs.Text.{digit_of, digits_of, hex_of, places_below, places, data_hex, data_text, space, Put}
 
 pub length_digits : (base w v : ℕ) → length (digits_of base w v) ≡ w
 length_digits base zero v = refl
@@ -104,6 +104,22 @@ put_after before text after at next e n h = record { bytes = e; place = n; withi
 
 -- ---- data
 
+pub data_turn : (l bytes : List ℕ) (at i : ℕ) → i < length bytes
+    → sets (sets l (at + 2 * i) (hex_of 2 (get_or bytes i 0))) (at + 2 * (i + 1)) (data_hex (drop (i + 1) bytes)) ≡ sets l (at + 2 * i) (data_hex (drop i bytes))
+data_turn l bytes at i h =
+    let xs = hex_of 2 (get_or bytes i 0) in
+    let e : at + 2 * (i + 1) ≡ at + 2 * i + 2 = omega arith in
+    rw (drop-cons bytes i 0 h, e, add-one) (sets_join xs (data_hex (drop (suc i) bytes)) l (at + 2 * i))
+
 pub length_data : (bytes : List ℕ) → length (data_hex bytes) ≡ 2 * length bytes
 length_data [] = refl
 length_data (b ∷ bs) = length-append (hex_of 2 b) (data_hex bs) ∙ omega (arith, length_digits 16 2 b, length_data bs)
+
+-- data after a space
+pub spaced :
+    (l m n bytes : List ℕ) → (length bytes ≡ 0 → ⊥) → m ≡ l ++ (space ∷ []) → n ≡ m ++ data_hex bytes
+    → (n ≡ l ++ data_text bytes) × (length n ≤ length l + 1 + 2 * length bytes)
+spaced l m n [] e p q = absurd (e refl)
+spaced l m n (b ∷ bs) e p q =
+    let whole = then l m n (space ∷ []) (data_hex (b ∷ bs)) p q in
+    (whole, omega (arith, ap length whole, length-append l ((space ∷ []) ++ data_hex (b ∷ bs)), length_data (b ∷ bs)))
