@@ -1,6 +1,6 @@
 // Estimates, warnings, and the one place that writes events and the listed mark.
 ghost use Rattle.std.specs.Prelude.{◌≡◌, ◌<◌};
-ghost use Rattle.record.specs.Event.{estimate, bits_of, events_in, some_event, any_enabled, joined, warning, warns, starts_below, entering_d, and_exceeded, settled, is_silent, newly_listed};
+ghost use Rattle.record.specs.Event.{estimate, bits_of, events_in, events_of, no_events, some_event, any_enabled, joined, warning, warns, starts_below, entering_d, and_exceeded, settled, is_silent, newly_listed};
 
 use crate::{Attributes, Config, Effect, Events, Notes, Quantity, Record, State, Window};
 
@@ -40,6 +40,26 @@ impl Events {
         excursion: true,
         ..Events::NONE
     };
+
+    fn of(reads: bool, writes: bool, time: bool, exceeded: bool, excursion: bool) -> Events
+        ensures { result ≡ events_of reads writes time exceeded excursion }
+    {
+        Events {
+            reads,
+            writes,
+            time,
+            exceeded,
+            excursion,
+        }
+    }
+
+    // NONE, made field by field: a constant is copied as one number, and where the rules join it with the events of a set in D, the
+    // compiler then keeps four flags of which it could tell that two are never set. That made a tick 2 ns slower for each set.
+    pub fn none() -> Events
+        ensures { result ≡ no_events }
+    {
+        Events::of(false, false, false, false, false)
+    }
 
     // The events of 16 bits: those that stand for no event are not looked at.
     pub fn from_bits_truncate(x: u64) -> Events

@@ -56,7 +56,7 @@ fn note(s: State, e: Events) -> Effect
 pub fn keep_still(s: State) -> Effect
     ensures { result ≡ still s }
 {
-    note(s, Events::NONE)
+    note(s, Events::none())
 }
 
 // Enable or disable. That each cause stands in the code lets the compiler read the table's columns ahead.
