@@ -69,7 +69,8 @@ fn show_all<C: Cell>(page: &mut [u8], table: &[C], from: SetId) -> usize
 {
     let mut to = FIRST_ENTRY;
     for i in 0..count_of(table) {
-        if IDENTIFY_SIZE <= to {
+        let is_full = IDENTIFY_SIZE <= to;
+        if is_full {
             return to;
         }
         to = show_slot(page, to, table, Slot(i), from);

@@ -108,15 +108,17 @@ module _ (ws : List ℕ) (l : Legal ws) where
     pub number_inside : id - 1 < count ws
     number_inside = omega (arith, z, h)
 
-    pub search_number : (looks : ℕ) → (id_at ws (id - 1) ≡ id → ⊥) → max_sets ≤ 2 ^ looks → Searching ws id 0 (id - 1) looks
-    search_number looks q f =
-        record {
+    pub search_number :
+        (slot looks : ℕ) → slot ≡ id - 1 → (id_at ws (id - 1) ≡ id → ⊥) → max_sets ≤ 2 ^ looks → Searching ws id 0 slot looks
+    search_number slot looks s q f =
+        rw s
+        (record {
           inside = omega (arith, number_inside);
           below = λ k b. absurd (not-suc-le-zero b);
           above = λ k b m.
               ⊎_elim (λ e. rw (← e) here) (λ j. omega (arith, here, ids_rise (id - 1) k j m)) (eq-or-lt_of_le (up_from k b));
           few = omega (arith, number_inside, l.few, f);
-        }
+        })
       where
         up_from : (k : ℕ) → 0 + (id - 1) ≤ k → id - 1 ≤ k
         up_from k b = omega arith

@@ -1,4 +1,5 @@
 use mathlib.Core.Path.{sym, ap, ◌∙◌}
+use Prim.Native.Nat.{ℕ, ◌-◌}
 use native.Mathlib.Omega.{arith}
 use lib.Dec.{lit≤}
 use Rattle.table.specs.Table.{find_in}
@@ -20,8 +21,9 @@ loop-left-init g c =
     let e = c.from-identifier.ensures in
     elim c.if-identifier-sets.branch [
       | then-identifier-sets+else-id_at-want w ↦
-          rw (w.looks-is, w.left-is, c.from-want.ensures, e)
-          (search_number _ c.requires _ _ c.count_of-sets.ensures c.if-id-eq0.false (rw e at w.if-identifier-sets.true) _ (λ q. w.if-id_at-want.false ((rw e at w.id_at.ensures) ∙ q ∙ sym c.from-want.ensures)) (lit≤ tt))
+          rw (w.looks-is, w.left-is, c.from-want.ensures)
+          (search_number _ c.requires _ _ c.count_of-sets.ensures c.if-id-eq0.false (rw e at w.if-identifier-sets.true) _ _ (ap (λ (n : ℕ). n - 1) e)
+          (λ q. w.if-id_at-want.false ((rw e at w.id_at.ensures) ∙ q ∙ sym c.from-want.ensures)) (lit≤ tt))
       | else-identifier-sets w ↦ rw (w.looks-is, w.left-is) (search_all _ c.requires _ _ _ c.count_of-sets.ensures (lit≤ tt))
     ]
 

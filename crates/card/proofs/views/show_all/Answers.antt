@@ -20,7 +20,7 @@ pub loop-i-preserved : goal.loop-i-preserved
 loop-i-preserved g c =
     let l = c.loop-i in
     let h = rw c.count_of-i-end.ensures at c.loop-i-test.true in
-    (search rules, going_on c.args.page.now (g.C.Cell.words c.args.table.now) c.args.from.0 _ refl l.page l.to l.i (goes _ l.i l.to h c.if-to-ge-IDENTIFY_SIZE.false) l.invariant.1 _ _ c.show_slot-to.ensures)
+    (search rules, going_on c.args.page.now (g.C.Cell.words c.args.table.now) c.args.from.0 _ refl l.page l.to l.i (goes _ l.i l.to h c.if-is_full.false) l.invariant.1 _ _ c.show_slot-to.ensures)
 
 pub returns : goal.returns
 returns g c =
