@@ -42,11 +42,13 @@ impl Room {
         }
     }
 
+    // Each part is tried, so that as much is read of a call that is too long as of any other.
     fn take_all<R: Read>(&mut self, from: &mut R, n: Sizes) -> io::Result<()> {
-        take_words(from, &mut self.table, n.table, &mut self.bytes)?;
-        take(from, &mut self.answer, n.answer)?;
-        take(from, &mut self.command, n.command)?;
-        take(from, &mut self.data, n.data)
+        let table = take_words(from, &mut self.table, n.table, &mut self.bytes);
+        let answer = take(from, &mut self.answer, n.answer);
+        let command = take(from, &mut self.command, n.command);
+        let data = take(from, &mut self.data, n.data);
+        table.and(answer).and(command).and(data)
     }
 }
 

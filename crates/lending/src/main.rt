@@ -119,8 +119,10 @@ fn one_call<R: Read, W: Write>(from: &mut R, out: &mut W, room: &mut Room) -> io
     let mut head = [0u8; HEAD];
     from.read_exact(&mut head)?;
     let n = sizes_in(&head);
-    take_words(from, &mut room.table, n.table, &mut room.bytes)?;
-    take(from, &mut room.data, n.data)?;
+    // Both are tried, so that as much is read of a call that is too long as of any other.
+    let table = take_words(from, &mut room.table, n.table, &mut room.bytes);
+    let data = take(from, &mut room.data, n.data);
+    table.and(data)?;
     carry_out(
         out,
         &head,
