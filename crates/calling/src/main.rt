@@ -42,7 +42,7 @@ impl Room {
         }
     }
 
-    // Each part is tried, so that as much is read of a call that is too long as of any other.
+    // Each part is tried, so that as much is read of a call that is cut or too long as of any other.
     fn take_all<R: Read>(&mut self, from: &mut R, n: Sizes) -> io::Result<()> {
         let table = take_words(from, &mut self.table, n.table, &mut self.bytes);
         let answer = take(from, &mut self.answer, n.answer);
@@ -55,9 +55,10 @@ impl Room {
 // One call; an Err where it did not come whole. `lending` has one of this name for calls of other kinds.
 fn one_call<R: Read, W: Write>(from: &mut R, out: &mut W, room: &mut Room) -> io::Result<()> {
     let mut head = [0u8; HEAD];
-    from.read_exact(&mut head)?;
+    let begun = from.read_exact(&mut head);
     let n = sizes_in(&head);
-    room.take_all(from, n)?;
+    let came = room.take_all(from, n);
+    begun.and(came)?;
     let mut lent = Lent {
         table: part_mut(&mut room.table, n.table),
         command: part(&room.command, n.command),

@@ -117,12 +117,12 @@ struct Room {
 // One call; an Err where it did not come whole. `calling` has one of this name for calls of other kinds.
 fn one_call<R: Read, W: Write>(from: &mut R, out: &mut W, room: &mut Room) -> io::Result<()> {
     let mut head = [0u8; HEAD];
-    from.read_exact(&mut head)?;
+    let begun = from.read_exact(&mut head);
     let n = sizes_in(&head);
-    // Both are tried, so that as much is read of a call that is too long as of any other.
+    // Both are tried, so that as much is read of a call that is cut or too long as of any other.
     let table = take_words(from, &mut room.table, n.table, &mut room.bytes);
     let data = take(from, &mut room.data, n.data);
-    table.and(data)?;
+    begun.and(table).and(data)?;
     carry_out(
         out,
         &head,

@@ -126,7 +126,7 @@ fn put_digits(out: &mut [u8], at: usize, base: u64, width: usize, v: u64)
 }
 
 // Two digits a byte, straight into the line's bytes: by `hex`, which moves the end of the line at each byte, 4,096 bytes of data took
-// four times as long.
+// four to six times as long.
 fn put_bytes(out: &mut [u8], at: usize, bytes: &[u8])
     requires { at + 2 * length bytes.now ≤ length out.old }
     ensures { out.new ≡ sets out.old at (data_hex bytes.now) }
