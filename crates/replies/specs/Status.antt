@@ -16,15 +16,12 @@ abbrev pub first_of : List Line → ℕ
 first_of [] = 0
 first_of (l ∷ ls) = if l.holds then l.number else first_of ls
 
--- a table as code holds it: each test with its refusal, of which something tells the number
-abbrev pub lines_by : {R : Type 0} → (R → ℕ) → List (Bool × R) → List Line
-lines_by number_of [] = []
-lines_by number_of (row ∷ rows) = line row.0 (number_of row.1) ∷ lines_by number_of rows
+-- a table as code holds it: each test with its refusal, which `number_of` numbers
+abbrev pub lines_of : {R : Type 0} → (R → ℕ) → List (Bool × R) → List Line
+lines_of number_of [] = []
+lines_of number_of (row ∷ rows) = line row.0 (number_of row.1) ∷ lines_of number_of rows
 
-abbrev pub lines_of : List (Bool × Refusal) → List Line
-lines_of rows = lines_by number rows
-
--- what code answers, as a status number
+-- what code answers, as a status number: of refusals that `number_of` numbers, and of those of the card
 abbrev pub status_by : {R : Type 0} → (R → ℕ) → Result Unit R → ℕ
 status_by number_of (Ok _) = success
 status_by number_of (Err r) = number_of r

@@ -6,7 +6,7 @@ pub mod numbers;
 ghost use Rattle.std.specs.Prelude.{◌≡◌, ◌≤◌, ℕ, length};
 ghost use Rattle.octets.specs.Octets.{padded};
 ghost use Rattle.replies.specs.Numbers.{number};
-ghost use Rattle.replies.specs.Status.{first_of, lines_by, status_by};
+ghost use Rattle.replies.specs.Status.{first_of, lines_of, status_by};
 ghost use Rattle.replies.specs.Answers.{answered, replying, refusing, giving, done, awaiting, beside_of, reply_of, told_no, to_no, notice_of, notice_no, Replied};
 
 use crate::numbers::{REQUEST_WAITS, SUCCESS};
@@ -45,7 +45,7 @@ pub enum Refusal {
 
 // The refusal of the first row that holds, whatever a refusal is: any numbers will do.
 pub fn first<R: Copy>(rows: &[(bool, R)]) -> Result<(), R>
-    ensures { (number_of : R → ℕ) → status_by number_of result ≡ first_of (lines_by number_of rows.now) }
+    ensures { (number_of : R → ℕ) → status_by number_of result ≡ first_of (lines_of number_of rows.now) }
 {
     for (holds, refusal) in rows {
         if *holds {
