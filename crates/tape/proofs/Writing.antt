@@ -95,6 +95,15 @@ grown l xs at k e h =
     let long : length (take at l ++ xs) ≡ at + k = omega (arith, length-append (take at l) xs, length-take-le at l (omega arith)) in
     ap (take (at + k)) (sets-eq xs l at room) ∙ take_at (take at l ++ xs) (drop (at + length xs) l) (at + k) long
 
+-- text that is put into bytes after those that are shown
+pub appended :
+    (bytes after shown text : List ℕ) (at k : ℕ) → take at bytes ≡ shown → at ≤ length bytes → length shown + k ≤ length bytes
+    → k ≡ length text → after ≡ sets bytes at text → take (at + k) after ≡ shown ++ text
+appended bytes after shown text at k e h f n p =
+    ap (take (at + k)) p
+    ∙ grown bytes text at k n (omega (arith, f, ap length e, length-take-le at bytes h))
+    ∙ ap (λ (l : List ℕ). l ++ text) e
+
 -- text after text
 pub then : (l m n xs ys : List ℕ) → m ≡ l ++ xs → n ≡ m ++ ys → n ≡ l ++ (xs ++ ys)
 then l m n xs ys p q = q ∙ ap (λ (k : List ℕ). k ++ ys) p ∙ append_assoc l xs ys
@@ -104,6 +113,7 @@ put_after before text after at next e n h = record { bytes = e; place = n; withi
 
 -- ---- data
 
+-- a byte's two digits, and after them those of the bytes that follow
 pub data_turn : (l bytes : List ℕ) (at i : ℕ) → i < length bytes
     → sets (sets l (at + 2 * i) (hex_of 2 (get_or bytes i 0))) (at + 2 * (i + 1)) (data_hex (drop (i + 1) bytes)) ≡ sets l (at + 2 * i) (data_hex (drop i bytes))
 data_turn l bytes at i h =
