@@ -24,6 +24,10 @@ no_success BadSetUp h = omega arith
 no_success TickTooLong h = omega arith
 no_success BadCommandLength h = omega arith
 
+-- what an arm of a `match` tells of a status
+pub passed_no : (s : Result Unit Refusal) (u : Unit) → s ≡ Ok u → status_no s ≡ 0
+passed_no s u e = rw e
+
 -- what `is_ok` tells of it
 pub ok_is : (s : Result Unit Refusal) → is_ok s ≡ eqb (status_no s) 0
 ok_is (Ok u) = refl
