@@ -24,7 +24,7 @@ no_success BadSetUp h = omega arith
 no_success TickTooLong h = omega arith
 no_success BadCommandLength h = omega arith
 
--- what an arm of a `match` tells of a status
+-- what an arm of a `match` tells of a status: no proof here needs it, and it stands for other crates
 pub passed_no : (s : Result Unit Refusal) (u : Unit) → s ≡ Ok u → status_no s ≡ 0
 passed_no s u e = rw e
 
